@@ -1,2 +1,3 @@
 pub mod Order
 pub mod Bytes
+pub mod Showing

@@ -1,3 +1,4 @@
 pub mod Show
 pub mod Meaning
 pub mod Table
+pub mod Watch

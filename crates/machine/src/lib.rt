@@ -2,8 +2,13 @@
 mod machines;
 mod shows;
 mod tables;
+mod watches;
 
 pub use machines::Machine;
 pub use shows::show_order;
 pub use tables::FillRefusal;
 pub use tables::Table;
+pub use watches::Closed;
+pub use watches::CueRefusal;
+pub use watches::Slip;
+pub use watches::Watch;

@@ -1,0 +1,54 @@
+//! The types of watches and slips. Their calls are in the modules below.
+ghost use Prim.Native.Nat.{_<_, _≤_, _^_};
+
+mod machine;
+mod showing;
+
+/// A watch (a runtime monitor) over a machine: a running show, its position, and the number of cues taken.
+///
+/// A watch is not let go: `close` takes it, with its slip.
+pub struct Watch<M> {
+    machine: M,
+    position: u64,
+    taken: u16,
+    ghost within: { position < 2 ^ 64 },
+    ghost short: { taken ≤ 10000 },
+}
+
+/// A slip (a linear token): it comes with each begun show, and `close` alone takes it back.
+pub struct Slip {
+    mark: (),
+}
+
+impl Drop for Slip {
+    // Nobody can show what this asks, so no slip is let go unspent.
+    fn drop(self)
+        requires { ⌜ ⊥ ⌝ }
+    {
+        let Slip { mark: _ } = self;
+    }
+}
+
+impl Slip {
+    // Takes the slip apart.
+    fn spend(self) {
+        let Slip { mark: _ } = self;
+    }
+}
+
+/// Why a cue is turned down.
+#[derive(Clone, Copy, PartialEq, Eq, Debug)]
+pub enum CueRefusal {
+    /// The number is not below the cue count.
+    NoSuchCue,
+    /// 10,000 cues are taken.
+    ShowFull,
+}
+
+/// A closed show: the machine as it was given, the number of cues taken, and whether the show was allowed.
+#[derive(Drop)]
+pub struct Closed<M> {
+    pub machine: M,
+    pub taken: u16,
+    pub allowed: bool,
+}
