@@ -1,19 +1,20 @@
 -- The bytes that a table holds.
 -- Assumes nothing.
-use mathlib.Core.Path.{_≡_}
+use mathlib.Core.Path.{_≡_, refl, ap, _∙_}
 use mathlib.Core.List.{List, _++_}
 use mathlib.Core.Logic.{⊎-elim}
-use Prim.Native.Nat.{ℕ, zero, suc, _-_, _*_, _<_, _≤_}
+use Prim.Native.Nat.{ℕ, zero, suc, _+_, _-_, _*_, _<_, _≤_}
 use native.Mathlib.Nat.{sub-zero}
 use native.Mathlib.Omega.{arith}
 use lib.ListN.{length, getD, replicate, length-replicate, length-append}
 use borrow.Rule.Slice.PartMut.{putMid}
-use Rattle.std.proofs.shelf.Bits.{mul-le}
+use Rattle.std.proofs.shelf.Bits.{mul-le, mul-add-lt}
 use Rattle.std.proofs.shelf.Elements.{all-getD, all-append}
-use Rattle.std.proofs.shelf.Lists.{drop-replicate, getD-past}
-use Rattle.std.proofs.shelf.Tests.{cases-lt}
+use Rattle.std.proofs.shelf.Lists.{drop-replicate, getD-append-left, getD-past}
+use Rattle.std.proofs.shelf.Tests.{cases-lt, lt-ltb, le-ltb}
 use Rattle.machine.specs.Show.{AllBelow}
-use Rattle.machine.specs.Table.{Description, Right}
+use Rattle.machine.specs.declared.tables.Table.{Table}
+use Rattle.machine.specs.Table.{Description, Right, Holds, Means, bit, tableMeaning}
 
 -- Numbers below a positive limit, read at any place, past their end too.
 below-at : (limit : ℕ) (xs : List ℕ) → 0 < limit → AllBelow limit xs → (k : ℕ) → getD xs k 0 < limit
@@ -48,3 +49,19 @@ module _ (d : Description) (right : Right d) where
   padded-at =
       let some : 0 < d .states = omega (arith, right .states .0) in
       below-at (d .states) _ some (all-append (λ x. x < d .states) _ _ (right .names .0) (zeros-below (d .states) _ some))
+
+-- A table that holds a right description means it.
+means : (t : Table) (d : Description) → Right d → Holds t d → Means (tableMeaning t) d
+means t d right h = record {
+  cues = h .cues;
+  start = refl;
+  next = λ p c lt in′. rw (lt-ltb p (t .states) (omega (arith, h .states)), lt-ltb c (t .cues) (omega (arith, h .cues)))
+      (let there : p * d .cues + c < length (d .next) = omega (arith, right .length, mul-add-lt p (d .cues) c (d .states) lt in′) in
+      ap (λ n. getD (t .next) (p * n + c) 0) (h .cues) ∙ ap (λ l. getD l (p * d .cues + c) 0) (h .next) ∙ getD-append-left (d .next) _ 0 (p * d .cues + c) there);
+  closes = λ p lt. rw (lt-ltb p (t .states) (omega (arith, h .states))) (ap (λ n. bit n p) (h .closing));
+  stays = λ p c past. rw (le-ltb p (t .states) (omega (arith, h .states)));
+  bars = λ p past. rw (le-ltb p (t .states) (omega (arith, h .states)));
+}
+
+pub filled : (t : Table) (d : Description) → Right d → Holds t d → Right d × Holds t d × Means (tableMeaning t) d
+filled t d right h = (right, h, means t d right h)

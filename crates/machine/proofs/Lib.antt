@@ -1,3 +1,4 @@
 pub mod Order
+pub mod Leading
 pub mod Bytes
 pub mod Showing

@@ -28,11 +28,11 @@ abbrev pub leadsTo : Meaning → Show → ℕ
 leadsTo m s = ledFrom (m .steps) (m .steps .start) s
 
 -- A show is allowed when it may close at the position to which it leads.
-abbrev pub allows : Meaning → Show → Bool
-allows m s = m .closes (leadsTo m s)
+abbrev pub allowed : Meaning → Show → Bool
+allowed m s = m .closes (leadsTo m s)
 
 abbrev pub Allows : Meaning → Show → Type 0
-Allows m s = allows m s ≡ true
+Allows m s = allowed m s ≡ true
 
 -- A show divides (distinguishes) two machines when exactly one of them allows it.
 abbrev pub Divides : Meaning → Meaning → Show → Type 0

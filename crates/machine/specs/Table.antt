@@ -82,13 +82,23 @@ pub record Holds (t : Table) (d : Description) : Type 0 where
   pub next : t .next ≡ d .next ++ replicate (2048 - length (d .next)) 0
   pub closing : t .closing ≡ d .closing
 
+-- The described machine, in its own words: it starts at state 0, state p and cue c lead to byte p × cues + c, and state p
+-- may close where bit p is set. A position that is no state moves to itself and may not close.
+pub record Means (m : Meaning) (d : Description) : Type 0 where
+  pub cues : m .steps .cues ≡ d .cues
+  pub start : m .steps .start ≡ 0
+  pub next : (p c : ℕ) → p < d .states → c < d .cues → m .steps .next p c ≡ getD (d .next) (p * d .cues + c) 0
+  pub closes : (p : ℕ) → p < d .states → m .closes p ≡ bit (d .closing) p
+  pub stays : (p c : ℕ) → d .states ≤ p → m .steps .next p c ≡ p
+  pub bars : (p : ℕ) → d .states ≤ p → m .closes p ≡ false
+
 -- How a description is answered: accepted when it is right, or else turned down.
 abbrev pub LookedOver : Result Unit FillRefusal → Description → Type 0
 LookedOver r d = Cases r (λ _. Right d) (λ e. TurnedDown e d)
 
--- Filling: a right description is held afterwards; one that is turned down leaves the table as it was.
+-- Filling: a right description is held and meant afterwards; one that is turned down leaves the table as it was.
 abbrev pub Filled : Result Unit FillRefusal → Description → Table → Table → Type 0
-Filled r d before after = Cases r (λ _. Right d × Holds after d) (λ e. TurnedDown e d × (after ≡ before))
+Filled r d before after = Cases r (λ _. Right d × Holds after d × Means (tableMeaning after) d) (λ e. TurnedDown e d × (after ≡ before))
 
 -- A new table: one state and one cue, closing nowhere.
 abbrev pub blank : Description

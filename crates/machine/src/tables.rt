@@ -4,14 +4,17 @@ ghost use Prim.Native.Nat.{ℕ, _<_, _≤_, _^_};
 ghost use lib.ListN.{length, getD};
 
 mod filling;
-mod stepping;
+mod machine;
+
+// One byte for each of at most 64 states and 32 cues.
+const CELLS: usize = 2048;
 
 /// A table (an explicit automaton): 1 to 64 states, numbered from 0, the start, with the next state for each state and cue.
 #[derive(Drop)]
 pub struct Table {
     states: u8,
     cues: u8,
-    next: [u8; 2048],
+    next: [u8; CELLS],
     closing: u64,
     ghost some_states: { 1 ≤ states },
     ghost few_states: { states ≤ 64 },

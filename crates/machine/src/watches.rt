@@ -5,8 +5,7 @@ mod machine;
 mod showing;
 
 /// A watch (a runtime monitor) over a machine: a running show, its position, and the number of cues taken.
-///
-/// A watch is not let go: `close` takes it, with its slip.
+#[derive(Drop)]
 pub struct Watch<M> {
     machine: M,
     position: u64,

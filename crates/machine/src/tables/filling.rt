@@ -6,8 +6,13 @@ ghost use lib.ListN.{length, replicate};
 ghost use Rattle.std.specs.Orderings.{When};
 ghost use Rattle.machine.specs.Show.{AllBelow};
 ghost use Rattle.machine.specs.Table.{described, LookedOver, Filled, Holds, fillNumber, blank};
+use super::CELLS;
 use super::FillRefusal;
 use super::Table;
+
+const MOST_STATES: u8 = 64;
+
+const MOST_CUES: u8 = 32;
 
 impl FillRefusal {
     /// The published number of the refusal.
@@ -31,7 +36,7 @@ impl Table {
         Table {
             states: 1,
             cues: 1,
-            next: [0; 2048],
+            next: [0; CELLS],
             closing: 0,
         }
     }
@@ -69,10 +74,10 @@ impl Table {
 fn looked_over(states: u8, cues: u8, next: &[u8], closing: u64) -> Result<(), FillRefusal>
     ensures { λ r. ⌜ LookedOver r (described states cues (now (next .entry)) closing) ⌝ }
 {
-    if states < 1 || states > 64 {
+    if states < 1 || states > MOST_STATES {
         return Err(FillRefusal::StateCount);
     }
-    if cues < 1 || cues > 32 {
+    if cues < 1 || cues > MOST_CUES {
         return Err(FillRefusal::CueCount);
     }
     if next.len() != states as usize * cues as usize {
@@ -105,11 +110,11 @@ fn bits_below(bits: u64, count: u8) -> bool
 }
 
 // The bytes with zeros behind them.
-fn padded(bytes: &[u8]) -> [u8; 2048]
+fn padded(bytes: &[u8]) -> [u8; CELLS]
     requires { ⌜ length (now bytes) ≤ 2048 ⌝ }
     ensures { λ r. ⌜ r ≡ now (bytes .entry) ++ replicate (2048 - length (now (bytes .entry))) 0 ⌝ }
 {
-    let mut all = [0; 2048];
+    let mut all = [0; CELLS];
     all[0..bytes.len()].copy_from_slice(bytes);
     all
 }

@@ -1,7 +1,7 @@
 use native.Mathlib.Omega.{arith}
 use Rattle.std.proofs.shelf.Bits.{mul-add-lt}
 use Rattle.machine.proofs.Bytes.{rows-fit}
-use Rattle.machine.proofs.tables.stepping.TableMachine.next.Needs as need
+use Rattle.machine.proofs.tables.machine.TableMachine.next.Needs as need
 
 pub index-self-position : need.index-self-position
 index-self-position c =
