@@ -6,6 +6,8 @@ ghost use lib.ListN.{length, getD};
 mod filling;
 mod machine;
 
+pub use machine::TableMachine;
+
 // One byte for each of at most 64 states and 32 cues.
 const CELLS: usize = 2048;
 

@@ -4,6 +4,8 @@ ghost use Prim.Native.Nat.{_<_, _≤_, _^_};
 mod machine;
 mod showing;
 
+pub use machine::WatchMachine;
+
 /// A watch (a runtime monitor) over a machine: a running show, its position, and the number of cues taken.
 #[derive(Drop)]
 pub struct Watch<M> {

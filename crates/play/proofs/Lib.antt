@@ -1,0 +1,2 @@
+pub mod LoadFirst
+pub mod Digits
