@@ -1,4 +1,5 @@
 //! The types of watches and slips. Their calls are in the modules below.
+ghost use mathlib.Core.Path.{_≡_};
 ghost use Prim.Native.Nat.{_<_, _≤_, _^_};
 
 mod machine;
@@ -14,6 +15,15 @@ pub struct Watch<M> {
     taken: u16,
     ghost within: { position < 2 ^ 64 },
     ghost short: { taken ≤ 10000 },
+}
+
+impl<M> Watch<M> {
+    /// How many cues the show has taken.
+    pub fn taken(&self) -> u16
+        ensures { λ r. ⌜ r ≡ now (self .entry) .taken ⌝ }
+    {
+        self.taken
+    }
 }
 
 /// A slip (a linear token): it comes with each begun show, and `close` alone takes it back.

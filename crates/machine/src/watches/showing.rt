@@ -52,13 +52,6 @@ impl<M: Machine> Watch<M> {
         Ok(())
     }
 
-    /// How many cues the show has taken.
-    pub fn taken(&self) -> u16
-        ensures { λ r. ⌜ r ≡ standing (now (self .entry)) .taken ⌝ }
-    {
-        self.taken
-    }
-
     /// Closes the show: spends its slip and gives the machine back.
     pub fn close(self, slip: Slip) -> Closed<M>
         ensures { λ r. ⌜ r ≡ closed (M·Machine .meaning) (standing self) ⌝ }
