@@ -13,11 +13,11 @@ pub fn show_order(s: &[u8], t: &[u8]) -> Ordering
     if s.len() > t.len() {
         return Ordering::Greater;
     }
-    for i in 0..s.len() {
-        if s[i] < t[i] {
+    for (i, cue) in s.iter().enumerate() {
+        if *cue < t[i] {
             return Ordering::Less;
         }
-        if s[i] > t[i] {
+        if *cue > t[i] {
             return Ordering::Greater;
         }
     }

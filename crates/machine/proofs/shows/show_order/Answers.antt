@@ -12,14 +12,14 @@ returns-then-s-t c = record { placed = inl (search needs); laws = show-order }
 pub returns-then-s-t-2 : need.returns-then-s-t-2
 returns-then-s-t-2 c = record { placed = inl (search needs); laws = show-order }
 
-pub returns-then-s-i : need.returns-then-s-i
-returns-then-s-i c = record {
+pub returns-then-cue-t : need.returns-then-cue-t
+returns-then-cue-t c = record {
   placed = inr (omega arith, (c .loop-i .i, record { inside = search needs; agree = c .loop-i .inv; smaller = search needs }));
   laws = show-order;
 }
 
-pub returns-then-s-i-2 : need.returns-then-s-i-2
-returns-then-s-i-2 c = record {
+pub returns-then-cue-t-2 : need.returns-then-cue-t-2
+returns-then-cue-t-2 c = record {
   placed = inr (omega arith, (c .loop-i .i, record { inside = search needs; agree = λ k h. sym (c .loop-i .inv k h); smaller = search needs }));
   laws = show-order;
 }
