@@ -1,17 +1,19 @@
 -- The bytes that a table holds.
 -- Assumes nothing.
 use mathlib.Core.Path.{_≡_, refl, ap, _∙_}
+use mathlib.Core.Bool.{false}
 use mathlib.Core.List.{List, _++_}
 use mathlib.Core.Logic.{⊎-elim}
 use Prim.Native.Nat.{ℕ, zero, suc, _+_, _-_, _*_, _<_, _≤_}
 use native.Mathlib.Nat.{sub-zero}
 use native.Mathlib.Omega.{arith}
+use lib.Dec.{ltb}
 use lib.ListN.{length, getD, replicate, length-replicate, length-append}
 use borrow.Rule.Slice.PartMut.{putMid}
 use Rattle.std.proofs.shelf.Bits.{mul-le, mul-add-lt}
 use Rattle.std.proofs.shelf.Elements.{all-getD, all-append}
 use Rattle.std.proofs.shelf.Lists.{drop-replicate, getD-append-left, getD-past}
-use Rattle.std.proofs.shelf.Tests.{cases-lt, lt-ltb, le-ltb}
+use Rattle.std.proofs.shelf.Tests.{and-right, cases-lt, lt-ltb, le-ltb}
 use Rattle.machine.specs.Show.{AllBelow}
 use Rattle.machine.specs.declared.tables.Table.{Table}
 use Rattle.machine.specs.Table.{Description, Right, Holds, Means, bit, tableMeaning}
@@ -59,7 +61,9 @@ means t d right h = record {
       (let there : p * d .cues + c < length (d .next) = omega (arith, right .length, mul-add-lt p (d .cues) c (d .states) lt in′) in
       ap (λ n. getD (t .next) (p * n + c) 0) (h .cues) ∙ ap (λ l. getD l (p * d .cues + c) 0) (h .next) ∙ getD-append-left (d .next) _ 0 (p * d .cues + c) there);
   closes = λ p lt. rw (lt-ltb p (t .states) (omega (arith, h .states))) (ap (λ n. bit n p) (h .closing));
-  stays = λ p c past. rw (le-ltb p (t .states) (omega (arith, h .states)));
+  stays = λ p c. ⊎-elim
+      (λ past. rw (le-ltb p (t .states) (omega (arith, h .states))))
+      (λ none. rw (le-ltb c (t .cues) (omega (arith, h .cues)), and-right (ltb p (t .states)) false refl));
   bars = λ p past. rw (le-ltb p (t .states) (omega (arith, h .states)));
 }
 

@@ -3,6 +3,7 @@
 use mathlib.Core.Path.{_≡_}
 use mathlib.Core.Bool.{Bool, cond, false, _&&_}
 use mathlib.Core.List.{List, [], _∷_, _++_}
+use mathlib.Core.Logic.{_⊎_}
 use Prim.Native.Nat.{ℕ, _+_, _-_, _*_, _/_, _%_, _^_, _<_, _≤_}
 use lib.Dec.{ltb, eqb}
 use lib.ListN.{length, getD, replicate}
@@ -83,13 +84,13 @@ pub record Holds (t : Table) (d : Description) : Type 0 where
   pub closing : t .closing ≡ d .closing
 
 -- The described machine, in its own words: it starts at state 0, state p and cue c lead to byte p × cues + c, and state p
--- may close where bit p is set. A position that is no state moves to itself and may not close.
+-- may close where bit p is set. What is no state or no cue moves nowhere, and what is no state may not close.
 pub record Means (m : Meaning) (d : Description) : Type 0 where
   pub cues : m .steps .cues ≡ d .cues
   pub start : m .steps .start ≡ 0
   pub next : (p c : ℕ) → p < d .states → c < d .cues → m .steps .next p c ≡ getD (d .next) (p * d .cues + c) 0
   pub closes : (p : ℕ) → p < d .states → m .closes p ≡ bit (d .closing) p
-  pub stays : (p c : ℕ) → d .states ≤ p → m .steps .next p c ≡ p
+  pub stays : (p c : ℕ) → (d .states ≤ p) ⊎ (d .cues ≤ c) → m .steps .next p c ≡ p
   pub bars : (p : ℕ) → d .states ≤ p → m .closes p ≡ false
 
 -- How a description is answered: accepted when it is right, or else turned down.

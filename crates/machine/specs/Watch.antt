@@ -1,7 +1,7 @@
 -- Watches: what a running one means, what its calls do, and what they do over a whole show.
 -- Assumes nothing.
 use mathlib.Core.Path.{_≡_}
-use mathlib.Core.Bool.{Bool, true, cond}
+use mathlib.Core.Bool.{cond}
 use mathlib.Core.List.{List, [], _∷_, _++_}
 use Prim.Native.Nat.{ℕ, _+_, _≤_}
 use lib.Dec.{ltb}
@@ -34,7 +34,7 @@ pub record Standing (M : Type 0) : Type 0 where
 abbrev pub standing : {M : Type 0} → Watch M → Standing M
 standing w = record { machine = w .machine; position = w .position; taken = w .taken }
 
--- The show that a watch hears of calls of cue: those that are cues, up to the most that a show takes.
+-- Of numbers, one after the other, those that are cues, up to the most that a show takes.
 abbrev pub heard : ℕ → List ℕ → Show
 heard count calls = take longest (kept-by (λ c. ltb c count) calls)
 
@@ -77,13 +77,17 @@ module _ {M : Type 0} (meaning : M → Meaning) where
   answers w [] = []
   answers w (c ∷ s) = cueAnswer w c ∷ answers (afterCue w c) s
 
+  -- The show that a watch over the machine x hears of calls of cue.
+  abbrev pub heardBy : M → List ℕ → Show
+  heardBy x calls = heard (meaning x .steps .cues) calls
+
   -- The law over whole shows. A show is begun over the machine x, and cue is called any number of times with any numbers.
   pub record WholeShow (x : M) : Type 0 where
     -- the watch stands where the show that it heard leads
-    pub stands : (calls : List ℕ) → let s : Show = heard (meaning x .steps .cues) calls in afterCues (begun x) calls ≡ record { machine = x; position = leadsTo (meaning x) s; taken = length s }
+    pub stands : (calls : List ℕ) → afterCues (begun x) calls ≡ record { machine = x; position = leadsTo (meaning x) (heardBy x calls); taken = length (heardBy x calls) }
     -- closed then, it gives the machine back unchanged, and says whether the machine allows that show
-    pub closes : (calls : List ℕ) → let s : Show = heard (meaning x .steps .cues) calls in closed (afterCues (begun x) calls) ≡ record { machine = x; taken = length s; allowed = allowed (meaning x) s }
+    pub closes : (calls : List ℕ) → closed (afterCues (begun x) calls) ≡ record { machine = x; taken = length (heardBy x calls); allowed = allowed (meaning x) (heardBy x calls) }
     -- still running, it allows just those rests that the machine allows behind that show
-    pub ahead : (calls : List ℕ) (w : Watch M) → standing w ≡ afterCues (begun x) calls → (rest : Show) → allowed (watchMeaning w) rest ≡ allowed (meaning x) (heard (meaning x .steps .cues) calls ++ rest)
+    pub ahead : (calls : List ℕ) (w : Watch M) → standing w ≡ afterCues (begun x) calls → (rest : Show) → allowed (watchMeaning w) rest ≡ allowed (meaning x) (heardBy x calls ++ rest)
     -- a show of at most 10,000 cues is heard whole, and none of its cues is turned down
-    pub whole : (s : Show) → Cued (meaning x .steps .cues) s → length s ≤ longest → (heard (meaning x .steps .cues) s ≡ s) × All (λ a. a ≡ Ok tt) (answers (begun x) s)
+    pub whole : (s : Show) → Cued (meaning x .steps .cues) s → length s ≤ longest → (heardBy x s ≡ s) × All (λ a. a ≡ Ok tt) (answers (begun x) s)

@@ -6,8 +6,7 @@ use Prim.Native.Nat.{ℕ, _+_, _<_, _≤_}
 use lib.ListN.{length, getD, drop}
 use Rattle.std.proofs.shelf.Lists.{at-drop-more, at-drop-all}
 use Rattle.machine.specs.Meaning.{Meaning, allowed}
-use Rattle.machine.specs.Watch.{Standing, begun, afterCue, afterCues, closed, heard, WholeShow}
-use Rattle.machine.specs.declared.watches.Closed.{Closed}
+use Rattle.machine.specs.Watch.{Standing, begun, afterCue, afterCues, closed, heardBy, WholeShow}
 
 module _ {M : Type 0} (meaning : M → Meaning) where
   -- One call taken from the front of what is left leads to the same place.
@@ -16,6 +15,6 @@ module _ {M : Type 0} (meaning : M → Meaning) where
 
   -- Closed where no call is left, a show that was begun over x answers what the law over whole shows says.
   pub ended : (x : M) (w v : Standing M) (i : ℕ) (calls : List ℕ) → WholeShow meaning x → length calls ≤ i → v ≡ begun meaning x → afterCues meaning w (drop i calls) ≡ afterCues meaning v calls
-      → closed meaning w ≡ record { machine = x; taken = length (heard (meaning x .steps .cues) calls); allowed = allowed (meaning x) (heard (meaning x .steps .cues) calls) }
+      → closed meaning w ≡ record { machine = x; taken = length (heardBy meaning x calls); allowed = allowed (meaning x) (heardBy meaning x calls) }
   ended x w v i calls law end begins inv =
       ap (closed meaning) (sym (at-drop-all (afterCues meaning w) calls i end) ∙ inv ∙ ap (λ u. afterCues meaning u calls) begins) ∙ law .closes calls
