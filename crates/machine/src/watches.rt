@@ -56,10 +56,13 @@ pub enum CueRefusal {
     ShowFull,
 }
 
-/// A closed show: the machine as it was given, the number of cues taken, and whether the show was allowed.
+/// A closed show.
 #[derive(Drop)]
 pub struct Closed<M> {
+    /// The machine as it was given.
     pub machine: M,
+    /// How many cues the show took.
     pub taken: u16,
+    /// Whether the machine allows the show.
     pub allowed: bool,
 }

@@ -2,8 +2,6 @@
 use super::rehearse;
 use machine::Closed;
 use machine::CueRefusal;
-use machine::CueRefusalDebug;
-use machine::CueRefusalPartialEq;
 use machine::Machine;
 use machine::Table;
 use machine::TableMachine;
@@ -204,6 +202,22 @@ fn a_running_watch_starts_where_it_stands() -> Result<(), Fail> {
     let _ = watch.close(slip);
     check_eq(place, 1)?;
     check(!before && !after && rest)
+}
+
+#[test]
+fn a_watch_runs_over_a_watch() -> Result<(), Fail> {
+    let (mut inner, first) = Watch::begin(small()?);
+    let _ = inner.cue(0);
+    let (mut outer, second) = Watch::begin(inner);
+    let _ = outer.cue(1);
+    let _ = outer.cue(1);
+    let _ = outer.cue(0);
+    let above = outer.close(second);
+    let below = above.machine.close(first);
+    check_eq(above.taken, 3)?;
+    check(above.allowed)?;
+    check_eq(below.taken, 1)?;
+    check(!below.allowed)
 }
 
 // Two shows, and how the first stands to the second.

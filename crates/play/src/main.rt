@@ -82,14 +82,14 @@ fn play(rt: &LibcRuntime, watch: &mut Watch<Table>) -> Result<(), AnyError> {
     for line in rt.lines(rt.alloc()) {
         let line = line?;
         match number(line.as_bytes()) {
-            Some(cue) => tell(rt, &line, cue, take(watch, cue))?,
+            Some(cue) => tell(rt, line.as_str(), cue, take(watch, cue))?,
             None => println!(rt, "not a number: {line:?}")?,
         }
     }
     Ok(())
 }
 
-fn tell(rt: &LibcRuntime, line: &String, cue: u8, step: Step) -> Result<(), AnyError> {
+fn tell(rt: &LibcRuntime, line: &str, cue: u8, step: Step) -> Result<(), AnyError> {
     match step {
         Step::Taken(position, closes) => {
             let cue_name = name(cue);
