@@ -2,9 +2,9 @@
 -- Assumes nothing.
 use mathlib.Core.Path.{_≡_, refl, sym, ap, _∙_}
 use mathlib.Core.List.{List, [], _∷_, _++_}
-use Prim.Native.Nat.{ℕ, _+_, _<_, _≤_}
+use Prim.Native.Nat.{ℕ, _+_, _<_}
 use lib.ListN.{length, getD, drop}
-use Rattle.std.proofs.shelf.Lists.{at-drop-more, at-drop-all}
+use Rattle.std.proofs.shelf.Lists.{at-drop-more}
 use Rattle.machine.specs.Show.{Show}
 use Rattle.machine.specs.Meaning.{Stepping, ledFrom}
 
@@ -13,10 +13,8 @@ pub led-append : (m : Stepping) (p : ℕ) (s t : Show) → ledFrom m p (s ++ t) 
 led-append m p [] t = refl
 led-append m p (c ∷ s) t = led-append m (m .next p c) s t
 
--- One cue taken from the front of what is left leads to the same place.
-pub led-more : (m : Stepping) (p q i : ℕ) (s : Show) → i < length s → q ≡ m .next p (getD s i 0) → ledFrom m q (drop (i + 1) s) ≡ ledFrom m p (drop i s)
-led-more m p q i s h e = ap (λ r. ledFrom m r (drop (i + 1) s)) e ∙ sym (at-drop-more (ledFrom m p) s i 0 h)
-
--- Where nothing is left, the position is the one reached.
-pub led-all : (m : Stepping) (p i : ℕ) (s : Show) → length s ≤ i → p ≡ ledFrom m p (drop i s)
-led-all m p i s h = sym (at-drop-all (ledFrom m p) s i h)
+-- One number taken from the front of what is left changes nothing for what is computed from a state and the rest, number by
+-- number: where a show leads, and where calls of cue lead a watch.
+pub front-more : {S R : Type 0} (F : S → List ℕ → R) (step : S → ℕ → S) → ((s : S) (c : ℕ) (l : List ℕ) → F s (c ∷ l) ≡ F (step s c) l)
+    → (s t : S) (i : ℕ) (l : List ℕ) → i < length l → t ≡ step s (getD l i 0) → F t (drop (i + 1) l) ≡ F s (drop i l)
+front-more F step goes s t i l h e = ap (λ u. F u (drop (i + 1) l)) e ∙ sym (goes s _ _) ∙ sym (at-drop-more (F s) l i 0 h)

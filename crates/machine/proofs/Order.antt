@@ -1,50 +1,35 @@
 -- The laws of show order.
 -- Assumes nothing.
-use mathlib.Core.Path.{_≡_, refl, sym, ap, subst, _∙_}
-use mathlib.Core.List.{List, [], _∷_, _++_}
+use mathlib.Core.Path.{_≡_, refl, sym, subst, _∙_}
+use mathlib.Core.List.{[], _∷_, _++_}
 use mathlib.Core.Logic.{_⊎_, inl, inr, ⊎-elim}
-use Prim.Native.Nat.{ℕ, zero, suc, _+_, _<_}
+use Prim.Native.Nat.{ℕ, zero, suc, _+_, _<_, _≤_}
 use native.Mathlib.Omega.{arith}
 use lib.ListN.{length, getD, length-append}
 use Rattle.std.proofs.shelf.Lists.{getD-append-left, getD-push}
-use Rattle.std.proofs.shelf.Tests.{cases-order}
+use Rattle.std.proofs.shelf.Tests.{cases-lt, cases-order}
 use Rattle.machine.specs.Show.{Show, LowerAt, Earlier, ExactlyOne, ShowOrder}
 
 irreflexive : (s : Show) → Earlier s s → ⊥
 irreflexive s (inl h) = omega arith
 irreflexive s (inr (e, (i, low))) = omega (arith, low .smaller)
 
+-- Up to the first difference the lower show's cues are not above the other's.
+upto : (s t : Show) (i k : ℕ) → LowerAt s t i → k ≤ i → getD s k 0 ≤ getD t k 0
+upto s t i k p h = ⊎-elim
+    (λ lt. omega (arith, p .agree k lt))
+    (λ (ge : i ≤ k). let same : k ≡ i = omega arith in rw same (omega (arith, p .smaller)))
+    (cases-lt k i)
+
 -- The earlier of two first differences decides.
 lower-transitive : (s t u : Show) (i j : ℕ) → length s ≡ length t → LowerAt s t i → LowerAt t u j → (k : ℕ) × LowerAt s u k
 lower-transitive s t u i j e p q = ⊎-elim
-    (λ same. (
-      i,
-      record {
-        inside = p .inside;
-        agree = λ k h. p .agree k h ∙ q .agree k (omega arith);
-        smaller = let at : getD t i 0 ≡ getD t j 0 = ap (λ n. getD t n 0) same in
-            let far : getD u i 0 ≡ getD u j 0 = ap (λ n. getD u n 0) same in
-            omega (arith, p .smaller, q .smaller);
-      },
-    ))
-    (⊎-elim
-    (λ h. (
-      i,
-      record {
-        inside = p .inside;
-        agree = λ k lt. p .agree k lt ∙ q .agree k (omega arith);
-        smaller = omega (arith, p .smaller, q .agree i h);
-      },
-    ))
-    (λ h. (
-      j,
-      record {
-        inside = omega (arith, p .inside);
-        agree = λ k lt. p .agree k (omega arith) ∙ q .agree k lt;
-        smaller = omega (arith, q .smaller, p .agree j h);
-      },
-    )))
-    (cases-order i j)
+    (λ lt. (j, at j (omega arith) (omega arith) (omega (arith, q .inside)) (omega (arith, p .agree j lt, q .smaller))))
+    (λ ge. (i, at i (omega arith) ge (p .inside) (omega (arith, p .smaller, upto t u j i q ge))))
+    (cases-lt j i)
+  where
+    at : (k : ℕ) → k ≤ i → k ≤ j → k < length s → getD s k 0 < getD u k 0 → LowerAt s u k
+    at k hi hj in′ lt = record { inside = in′; agree = λ n h. p .agree n (omega arith) ∙ q .agree n (omega arith); smaller = lt }
 
 transitive : (s t u : Show) → Earlier s t → Earlier t u → Earlier s u
 transitive s t u (inl h) (inl k) = inl (omega arith)
@@ -56,6 +41,7 @@ transitive s t u (inr (e, (i, p))) (inr (f, (j, q))) = inr (e ∙ f, lower-trans
 abbrev Compared : Show → Show → Type 0
 Compared s t = (s ≡ t) ⊎ (((i : ℕ) × LowerAt s t i) ⊎ ((i : ℕ) × LowerAt t s i))
 
+-- Shows that agree up to a place agree one place further on behind a common first cue.
 agree-behind : (c d : ℕ) (s t : Show) (i : ℕ) → c ≡ d → LowerAt s t i → (k : ℕ) → k < suc i → getD (c ∷ s) k 0 ≡ getD (d ∷ t) k 0
 agree-behind c d s t i e p zero h = e
 agree-behind c d s t i e p (suc k) h = p .agree k (omega arith)
@@ -64,6 +50,7 @@ agree-behind c d s t i e p (suc k) h = p .agree k (omega arith)
 lower-behind : (c d : ℕ) (s t : Show) → c ≡ d → (i : ℕ) × LowerAt s t i → (i : ℕ) × LowerAt (c ∷ s) (d ∷ t) i
 lower-behind c d s t e (i, p) = (suc i, record { inside = omega (arith, p .inside); agree = agree-behind c d s t i e p; smaller = p .smaller })
 
+-- Shows with different first cues differ there first.
 lower-first : (c d : ℕ) (s t : Show) → c < d → (i : ℕ) × LowerAt (c ∷ s) (d ∷ t) i
 lower-first c d s t h = (0, record { inside = omega arith; agree = λ k lt. absurd (omega arith); smaller = h })
 
@@ -79,6 +66,7 @@ compared (c ∷ s) (d ∷ t) e = ⊎-elim
     (λ apart. inr (⊎-elim (λ h. inl (lower-first c d s t h)) (λ h. inr (lower-first d c t s h)) apart))
     (cases-order c d)
 
+-- Earlier, the same and later exclude each other.
 apart : (s t : Show) → Earlier s t → s ≡ t → ⊥
 apart s t h e = irreflexive t (subst (λ x. Earlier x t) e h)
 

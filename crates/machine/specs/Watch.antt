@@ -81,12 +81,20 @@ module _ {M : Type 0} (meaning : M → Meaning) where
   abbrev pub heardBy : M → List ℕ → Show
   heardBy x calls = heard (meaning x .steps .cues) calls
 
+  -- A watch over x that stands where a show leads, all its cues taken.
+  abbrev pub standsAfter : M → Show → Standing M
+  standsAfter x s = record { machine = x; position = leadsTo (meaning x) s; taken = length s }
+
+  -- A show over x that is closed: the machine unchanged, the number of cues, and whether the machine allows the show.
+  abbrev pub closedAfter : M → Show → Closed M
+  closedAfter x s = record { machine = x; taken = length s; allowed = allowed (meaning x) s }
+
   -- The law over whole shows. A show is begun over the machine x, and cue is called any number of times with any numbers.
   pub record WholeShow (x : M) : Type 0 where
     -- the watch stands where the show that it heard leads
-    pub stands : (calls : List ℕ) → afterCues (begun x) calls ≡ record { machine = x; position = leadsTo (meaning x) (heardBy x calls); taken = length (heardBy x calls) }
-    -- closed then, it gives the machine back unchanged, and says whether the machine allows that show
-    pub closes : (calls : List ℕ) → closed (afterCues (begun x) calls) ≡ record { machine = x; taken = length (heardBy x calls); allowed = allowed (meaning x) (heardBy x calls) }
+    pub stands : (calls : List ℕ) → afterCues (begun x) calls ≡ standsAfter x (heardBy x calls)
+    -- closed then, it answers as that show, closed
+    pub closes : (calls : List ℕ) → closed (afterCues (begun x) calls) ≡ closedAfter x (heardBy x calls)
     -- still running, it allows just those rests that the machine allows behind that show
     pub ahead : (calls : List ℕ) (w : Watch M) → standing w ≡ afterCues (begun x) calls → (rest : Show) → allowed (watchMeaning w) rest ≡ allowed (meaning x) (heardBy x calls ++ rest)
     -- a show of at most 10,000 cues is heard whole, and none of its cues is turned down

@@ -1,6 +1,6 @@
 //! The trait of every machine, and what any machine says of a show.
 ghost use mathlib.Core.Path.{_≡_};
-ghost use Rattle.std.specs.Orderings.{When};
+ghost use Rattle.std.specs.Orderings.{Decides};
 ghost use Rattle.machine.specs.Meaning.{Meaning, Lawful, leadsTo, allowed, Divides};
 
 /// A machine (a deterministic automaton): it has a cue count, a start position, a next position for every position and
@@ -52,7 +52,7 @@ pub fn allows<M: Machine>(machine: &M, show: &[u8]) -> bool
 
 /// Whether a show divides (distinguishes) two machines: exactly one of them allows it.
 pub fn divides<L: Machine, R: Machine>(left: &L, right: &R, show: &[u8]) -> bool
-    ensures { λ r. ⌜ When r (Divides (L·Machine .meaning (now (left .entry))) (R·Machine .meaning (now (right .entry))) (now (show .entry))) (Divides (L·Machine .meaning (now (left .entry))) (R·Machine .meaning (now (right .entry))) (now (show .entry)) → ⊥) ⌝ }
+    ensures { λ r. ⌜ Decides r (Divides (L·Machine .meaning (now (left .entry))) (R·Machine .meaning (now (right .entry))) (now (show .entry))) ⌝ }
 {
     allows(left, show) != allows(right, show)
 }

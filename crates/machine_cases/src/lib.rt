@@ -1,9 +1,7 @@
 //! Cases that are run against the crate `machine`, and a client of it that is proved from its contracts alone.
 ghost use mathlib.Core.Path.{_≡_};
-ghost use lib.ListN.{length};
-ghost use Rattle.machine.specs.Meaning.{allowed};
 ghost use Rattle.machine.specs.Table.{tableMeaning};
-ghost use Rattle.machine.specs.Watch.{heardBy};
+ghost use Rattle.machine.specs.Watch.{closedAfter, heardBy};
 use machine::Closed;
 use machine::Table;
 use machine::TableMachine;
@@ -11,7 +9,7 @@ use machine::Watch;
 
 /// Plays numbers as one show over a table, passing over those that are turned down, and closes it.
 pub fn rehearse(table: Table, calls: &[u8]) -> Closed<Table>
-    ensures { λ r. ⌜ r ≡ record { machine = table; taken = length (heardBy tableMeaning table (now (calls .entry))); allowed = allowed (tableMeaning table) (heardBy tableMeaning table (now (calls .entry))) } ⌝ }
+    ensures { λ r. ⌜ r ≡ closedAfter tableMeaning table (heardBy tableMeaning table (now (calls .entry))) ⌝ }
 {
     let (mut watch, slip) = Watch::begin(table);
     for cue in calls {

@@ -50,10 +50,10 @@ const FILLS: [Fill; 23] = [
 
 // The number with which a filling is turned down, 0 where it is not, and the table after it.
 fn filled(fill: &Fill) -> (u8, Table) {
-    let all = [fill.3; 2049];
+    let Fill(states, cues, length, byte, closing, _) = fill;
+    let bytes = [*byte; 2049];
     let mut table = Table::new();
-    let length = if fill.2 < 2049 { fill.2 } else { 2049 };
-    let number = match table.fill(fill.0, fill.1, &all[0..length], fill.4) {
+    let number = match table.fill(*states, *cues, &bytes[0..(*length).min(2049)], *closing) {
         Ok(()) => 0,
         Err(why) => why.number(),
     };
@@ -63,11 +63,17 @@ fn filled(fill: &Fill) -> (u8, Table) {
 #[test]
 fn tables_are_filled_or_turned_down() -> Result<(), Fail> {
     for fill in &FILLS {
+        let Fill(states, cues, _, _, _, refusal) = fill;
         let (number, table) = filled(fill);
-        check_eq(number, fill.5)?;
+        check_eq(number, *refusal)?;
         // a table that is turned down stays new
-        check_eq(table.states(), if number == 0 { fill.0 } else { 1 })?;
-        check_eq(table.cues(), if number == 0 { fill.1 } else { 1 })?;
+        let (states, cues) = if number == 0 {
+            (*states, *cues)
+        } else {
+            (1, 1)
+        };
+        check_eq(table.states(), states)?;
+        check_eq(table.cues(), cues)?;
         check_eq(table.start(), 0)?;
     }
     Ok(())

@@ -16,7 +16,7 @@ example = described 3 3 (1 ∷ 0 ∷ 2 ∷ 1 ∷ 1 ∷ 1 ∷ 2 ∷ 2 ∷ 2 ∷ [
 abbrev pub LoadFirst : Show → Type 0
 LoadFirst s = (i : ℕ) → i < length s → getD s i 0 ≡ 2 → (k : ℕ) × (k < i) × (getD s k 0 ≡ 0)
 
--- The names of the three cues; any other number has none.
+-- The names of the three cues. Any other number is written as a question mark.
 abbrev pub cueName : ℕ → List ℕ
 cueName zero = codes "LOAD"
 cueName (suc zero) = codes "HOLD"

@@ -1,6 +1,6 @@
 //! Plays a show from standard input, one cue number a line, on a small example table, and prints what each cue did.
 ghost use mathlib.Core.Path.{_≡_};
-ghost use Prim.Native.Nat.{ℕ, _<_, _≤_, min};
+ghost use Prim.Native.Nat.{min};
 ghost use Rattle.std.specs.Options.{Cases};
 ghost use Rattle.std.specs.Orderings.{Decides};
 ghost use Rattle.machine.specs.Show.{Show, Cued};
@@ -9,7 +9,7 @@ ghost use Rattle.machine.specs.Table.{Means, tableMeaning};
 ghost use Rattle.machine.specs.Watch.{standing, afterCue};
 ghost use Rattle.play.specs.Decimal.{Decimal, readOn};
 ghost use Rattle.play.specs.Example.{example, LoadFirst, cueName};
-ghost use Rattle.play.specs.Playing.{Told};
+ghost use Rattle.play.specs.Playing.{Told, OnlyCued};
 use machine::CueRefusal;
 use machine::Machine;
 use machine::Table;
@@ -36,6 +36,7 @@ fn flight() -> Table
     }
 }
 
+// The name of a cue of the example.
 fn name(cue: u8) -> &'static str
     ensures { λ r. ⌜ now r ≡ cueName cue ⌝ }
 {
@@ -64,6 +65,7 @@ fn number(line: &[u8]) -> Option<u8>
     Some(n)
 }
 
+// Calls the cue, and says what it did.
 fn take(watch: &mut Watch<Table>, cue: u8) -> Step
     ensures told { λ r. ⌜ Told r (now (watch .entry)) (now (watch .exit)) cue ⌝ }
     ensures after { λ _. ⌜ standing (now (watch .exit)) ≡ afterCue tableMeaning (standing (now (watch .entry))) cue ⌝ }
@@ -78,7 +80,9 @@ fn take(watch: &mut Watch<Table>, cue: u8) -> Step
 }
 
 // Plays each line that is a number, and tells what it did.
-fn play(rt: &LibcRuntime, watch: &mut Watch<Table>) -> Result<(), AnyError> {
+fn play(rt: &LibcRuntime, watch: &mut Watch<Table>) -> Result<(), AnyError>
+    ensures { λ _. ⌜ OnlyCued (now (watch .entry)) (now (watch .exit)) ⌝ }
+{
     for line in rt.lines(rt.alloc()) {
         let line = line?;
         match number(line.as_bytes()) {
@@ -89,6 +93,7 @@ fn play(rt: &LibcRuntime, watch: &mut Watch<Table>) -> Result<(), AnyError> {
     Ok(())
 }
 
+// Prints what a cue number did.
 fn tell(rt: &LibcRuntime, line: &str, cue: u8, step: Step) -> Result<(), AnyError> {
     match step {
         Step::Taken(position, closes) => {

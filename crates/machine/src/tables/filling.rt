@@ -3,7 +3,7 @@ ghost use mathlib.Core.Path.{_≡_};
 ghost use mathlib.Core.List.{_++_};
 ghost use Prim.Native.Nat.{_-_, _<_, _≤_, _^_};
 ghost use lib.ListN.{length, replicate};
-ghost use Rattle.std.specs.Orderings.{When};
+ghost use Rattle.std.specs.Orderings.{Decides};
 ghost use Rattle.machine.specs.Show.{AllBelow};
 ghost use Rattle.machine.specs.Table.{described, LookedOver, Filled, Holds, fillNumber, blank};
 use super::CELLS;
@@ -91,7 +91,7 @@ fn looked_over(states: u8, cues: u8, next: &[u8], closing: u64) -> Result<(), Fi
 
 // Whether each byte is below a limit.
 fn all_below(bytes: &[u8], limit: u8) -> bool
-    ensures { λ r. ⌜ When r (AllBelow limit (now (bytes .entry))) (AllBelow limit (now (bytes .entry)) → ⊥) ⌝ }
+    ensures { λ r. ⌜ Decides r (AllBelow limit (now (bytes .entry))) ⌝ }
 {
     for b in bytes {
         if *b >= limit {
@@ -104,7 +104,7 @@ fn all_below(bytes: &[u8], limit: u8) -> bool
 // Whether a number has no bit set from a place on.
 fn bits_below(bits: u64, count: u8) -> bool
     requires { ⌜ count ≤ 64 ⌝ }
-    ensures { λ r. ⌜ When r (bits < 2 ^ count) (bits < 2 ^ count → ⊥) ⌝ }
+    ensures { λ r. ⌜ Decides r (bits < 2 ^ count) ⌝ }
 {
     count == 64 || bits < 1 << count
 }

@@ -22,6 +22,6 @@ pub impl Machine for Table as TableMachine {
     }
 
     fn may_close(&self, position: u64) -> bool {
-        position < self.states as u64 && (self.closing >> position) & 1 == 1
+        position < self.states as u64 && (self.closing >> position) % 2 == 1
     }
 }

@@ -1,13 +1,17 @@
-use mathlib.Core.Path.{_∙_}
-use Rattle.machine.proofs.Leading.{led-more, led-all}
+use mathlib.Core.Path.{refl, sym, _∙_}
+use Rattle.std.proofs.shelf.Lists.{at-drop-all}
+use Rattle.machine.specs.Meaning.{ledFrom}
+use Rattle.machine.proofs.Leading.{front-more}
 use Rattle.machine.proofs.machines.leads_to.Needs as need
 
 pub loop-cue-again : need.loop-cue-again
 loop-cue-again g c =
-    led-more (g .M·Machine .meaning (c .args .machine .now) .steps) (c .loop-cue .position) _ (c .loop-cue .cue-index) (c .args .show .now) (c .loop-cue-test .taken) (c .next-position .ensures)
+    let m = g .M·Machine .meaning (c .args .machine .now) .steps in
+    front-more (ledFrom m) (m .next) (λ _ _ _. refl) (c .loop-cue .position) _ (c .loop-cue .cue-index) (c .args .show .now) (c .loop-cue-test .taken) (c .next-position .ensures)
     ∙ c .loop-cue .inv
 
 pub returns : need.returns
 returns g c =
-    led-all (g .M·Machine .meaning (c .args .machine .now) .steps) (c .loop-cue .position) (c .loop-cue .cue-index) (c .args .show .now) (c .loop-cue-test .left)
+    let m = g .M·Machine .meaning (c .args .machine .now) .steps in
+    sym (at-drop-all (ledFrom m (c .loop-cue .position)) (c .args .show .now) (c .loop-cue .cue-index) (c .loop-cue-test .left))
     ∙ c .loop-cue .inv
