@@ -1,4 +1,7 @@
 //! Example tables over three cues, LOAD, HOLD and FLY, for the programs here to play and to compare.
+
+#![tactic(auto)]
+
 ghost use Rattle.std.specs.Prelude.{◌≡◌, Decides};
 ghost use Rattle.machine.specs.Show.{Show, Cued};
 ghost use Rattle.machine.specs.Meaning.{allowed};

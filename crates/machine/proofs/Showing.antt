@@ -1,7 +1,7 @@
 -- The law over whole shows: a watch stands where the show that it heard leads.
 -- Assumes nothing.
 use Rattle.std.proofs.Common.{◌≡◌, ℕ, zero, suc, ◌+◌, ◌≤◌, ltb, List, [], ◌∷◌, ◌++◌, length, take, Ok, filter, sym, refl, ap, ◌∙◌, ⊎_elim, arith, take_all}
-use Rattle.std.specs.List.{AllByRecursion as All}
+use Rattle.std.specs.List.{AllByRecursion}
 use Rattle.std.proofs.lemmas.Bool.{cases_Bool, lt-ltb, le-ltb}
 use Rattle.machine.proofs.Leading.{led_append}
 use Rattle.machine.specs.Show.{Show, Cued}
@@ -37,7 +37,7 @@ module _ {M : Type 0} (meaning : M → Meaning) (x : M) where
       (λ e. rw e (stands_from p t (suc n) s room))
       (cases_Bool (ltb c count))
 
-  taken_from : (p t n : ℕ) (s : Show) → t + n ≡ longest → Cued count s → length s ≤ n → All (λ a. a ≡ Ok tt) (answers meaning (at p t) s)
+  taken_from : (p t n : ℕ) (s : Show) → t + n ≡ longest → Cued count s → length s ≤ n → AllByRecursion (λ a. a ≡ Ok tt) (answers meaning (at p t) s)
   taken_from p t n [] room h short = tt
   taken_from p t zero (c ∷ s) room h short = absurd (omega arith)
   taken_from p t (suc n) (c ∷ s) room h short =

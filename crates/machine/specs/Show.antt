@@ -1,9 +1,9 @@
 -- Shows and show order.
 -- Assumes nothing.
-use Rattle.std.specs.Prelude.{◌≡◌, ℕ, ◌<◌, ◌⊎◌, List, [], ◌∷◌, ◌++◌, length, slice_index, slice_index_or}
+use Rattle.std.specs.Prelude.{◌≡◌, ℕ, ◌<◌, ◌⊎◌, List, [], ◌∷◌, ◌++◌, length, slice_index}
 use Rattle.std.specs.declared.cmp.Ordering.TheVariants.{Less, Equal, Greater}
 use Rattle.std.specs.declared.cmp.Ordering.{Ordering}
-use Rattle.std.specs.List.{AllByRecursion as All}
+use Rattle.std.specs.List.{AllByRecursion}
 
 -- A show (a finite trace) is a finite list of cues (events), perhaps empty.
 abbrev pub Show : Type 0
@@ -11,7 +11,7 @@ Show = List ℕ
 
 -- Every number of the list lies below the limit.
 abbrev pub AllBelow : ℕ → List ℕ → Type 0
-AllBelow limit xs = All (λ x. x < limit) xs
+AllBelow limit xs = AllByRecursion (λ x. x < limit) xs
 
 -- Every cue of the show lies below the cue count.
 abbrev pub Cued : ℕ → Show → Type 0
@@ -21,7 +21,7 @@ Cued count s = AllBelow count s
 pub record LowerAt (s t : Show) (i : ℕ) : Type 0 where
   pub inside : i < length s
   pub agree : (k : ℕ) → k < i → slice_index s k ≡ slice_index t k
-  pub smaller : slice_index_or s i 0 < slice_index t i
+  pub smaller : slice_index s i < slice_index t i
 
 -- Show order: shorter shows first; of two equally long shows the one with the smaller cue at the first difference.
 abbrev pub Earlier : Show → Show → Type 0

@@ -1,7 +1,7 @@
 -- Watches: what a running one means, what its calls do, and what they do over a whole show.
 -- Assumes nothing.
-use Rattle.std.specs.Prelude.{◌≡◌, ℕ, ◌+◌, ◌≤◌, cond, ltb, List, [], ◌∷◌, ◌++◌, length, take, Ok, Err, filter, Result, nat_lt}
-use Rattle.std.specs.List.{AllByRecursion as All}
+use Rattle.std.specs.Prelude.{◌≡◌, ℕ, ◌+◌, ◌≤◌, cond, List, [], ◌∷◌, ◌++◌, length, take, Ok, Err, filter, Result, nat_lt}
+use Rattle.std.specs.List.{AllByRecursion}
 use Rattle.machine.specs.Show.{Show, Cued}
 use Rattle.machine.specs.Meaning.{Meaning, leads_to, allowed}
 use Rattle.machine.specs.declared.watches.Watch.{Watch}
@@ -29,7 +29,7 @@ standing w = record { machine = w.machine; position = w.position; taken = w.take
 
 -- Of numbers, one after the other, those that are cues, up to the most that a show takes.
 abbrev pub heard : ℕ → List ℕ → Show
-heard count calls = take longest (filter (λ c. ltb c count) calls)
+heard count calls = take longest (filter (λ c. nat_lt c count) calls)
 
 -- A machine started at another position.
 abbrev pub started_at : Meaning → ℕ → Meaning
@@ -91,4 +91,4 @@ module _ {M : Type 0} (meaning : M → Meaning) where
     -- still running, it allows just those rests that the machine allows behind that show
     pub ahead : (calls : List ℕ) (w : Watch M) → standing w ≡ after_cues (begun x) calls → (rest : Show) → allowed (watch_meaning w) rest ≡ allowed (meaning x) (heard_by x calls ++ rest)
     -- a show of at most 10,000 cues is heard whole, and none of its cues is turned down
-    pub whole : (s : Show) → Cued (meaning x).steps.cues s → length s ≤ longest → (heard_by x s ≡ s) × All (λ a. a ≡ Ok tt) (answers (begun x) s)
+    pub whole : (s : Show) → Cued (meaning x).steps.cues s → length s ≤ longest → (heard_by x s ≡ s) × AllByRecursion (λ a. a ≡ Ok tt) (answers (begun x) s)

@@ -1,5 +1,8 @@
 //! Machines: what a deterministic automaton over cues is, and the two that stand on their own, a filled table and a watch
 //! over a running show. Nothing here allocates.
+
+#![tactic(auto)]
+
 mod machines;
 mod shows;
 mod tables;

@@ -1,4 +1,7 @@
 //! Cases that are run against the crate `machine`, and a client of it that is proved from its contracts alone.
+
+#![tactic(auto)]
+
 ghost use Rattle.std.specs.Prelude.{◌≡◌};
 ghost use Rattle.machine.specs.Table.{table_meaning};
 ghost use Rattle.machine.specs.Watch.{closed_after, heard_by};

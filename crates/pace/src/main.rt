@@ -1,5 +1,8 @@
 //! A load for the bench: compares two tables with 32 cues and 2,048 joint positions, the most that a bench records, so many
 //! times as its argument says. It prints how many joint positions were worked, and on standard error how many a second.
+
+#![tactic(auto)]
+
 ghost use Rattle.std.specs.Prelude.{◌≡◌, ◌*◌, ◌/◌, ◌≤◌, max, IfOk};
 ghost use Rattle.machine.specs.Table.{table_meaning};
 ghost use Rattle.pace.specs.Wheel.{turns, Laid, Wheel};

@@ -1,7 +1,7 @@
 -- Reading digits one after the other, up to 255.
 -- Assumes nothing.
 use Rattle.std.proofs.Common.{◌≡◌, ℕ, ◌+◌, ◌-◌, ◌*◌, ◌<◌, ◌≤◌, min, List, [], ◌∷◌, ◌++◌, length, get_or, take, refl, ap, ◌∙◌, arith, take_all}
-use Rattle.std.specs.List.{AllByRecursion as All}
+use Rattle.std.specs.List.{AllByRecursion}
 use Rattle.std.proofs.ByRecursion.{All-more}
 use Rattle.std.proofs.lemmas.List.{take_more}
 use Rattle.play.specs.Decimal.{Digit, Decimal, read_on}
@@ -12,7 +12,7 @@ read_push n (x ∷ bs) b = read_push (n * 10 + (x - 48)) bs b
 
 -- n is what the first i bytes of a line write, all of them digits, or 255 where that is more.
 abbrev pub Read : List ℕ → ℕ → ℕ → Type 0
-Read line i n = All Digit (take i line) × (n ≡ min 255 (read_on 0 (take i line)))
+Read line i n = AllByRecursion Digit (take i line) × (n ≡ min 255 (read_on 0 (take i line)))
 
 module _ (line : List ℕ) (i n : ℕ) (sofar : Read line i n) where
   pub read_more : (m : ℕ) → i < length line → Digit (get_or line i 0) → m ≡ min (min (n * 10) 255 + (get_or line i 0 - 48)) 255 → Read line (i + 1) m

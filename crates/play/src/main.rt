@@ -1,4 +1,7 @@
 //! Plays a show from standard input, one cue number a line, on a small example table, and prints what each cue did.
+
+#![tactic(auto)]
+
 ghost use Rattle.std.specs.Prelude.{◌≡◌, min, Decides, MatchOption};
 ghost use Rattle.machine.specs.Show.{Show, Cued};
 ghost use Rattle.machine.specs.Meaning.{allowed};

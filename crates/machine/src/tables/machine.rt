@@ -1,6 +1,6 @@
 //! A table answers as a machine.
 ghost use Rattle.machine.specs.Table.{table_meaning};
-ghost use Rattle.std.proofs.Common.{rules, arith};
+ghost use Rattle.std.proofs.Common.{rules};
 
 use super::Table;
 use crate::machines::Machine;
@@ -8,7 +8,7 @@ use crate::machines::Machine;
 impl Machine for Table {
     ghost meaning = { table_meaning };
 
-    ghost lawful = { first_of (Prim.search rules, Prim.grind (arith, Self.row.coded.inj)) };
+    ghost lawful = { Prim.search rules };
 
     fn cues(&self) -> u8 {
         self.cues

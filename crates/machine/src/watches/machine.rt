@@ -1,6 +1,6 @@
 //! A running watch answers as a machine.
 ghost use Rattle.machine.specs.Watch.{watch_meaning};
-ghost use Rattle.std.proofs.Common.{rules, arith};
+ghost use Rattle.std.proofs.Common.{rules};
 
 use super::Watch;
 use crate::machines::Machine;
@@ -8,7 +8,7 @@ use crate::machines::Machine;
 impl<M: Machine> Machine for Watch<M> {
     ghost meaning = { watch_meaning M.Machine.meaning };
 
-    ghost lawful = { first_of (Prim.search rules, Prim.grind (arith, Self.row.coded.inj)) };
+    ghost lawful = { Prim.search rules };
 
     fn cues(&self) -> u8 {
         self.machine.cues()
