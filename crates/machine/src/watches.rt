@@ -1,5 +1,5 @@
 //! The types of watches and slips. Their calls are in the modules below.
-ghost use Rattle.std.specs.Prelude.{◌≡◌, ◌^◌, ◌<◌, ◌≤◌};
+ghost use Rattle.std.specs.Prelude.{◌≡◌, true, ◌^◌, ◌<◌, ◌≤◌};
 
 mod machine;
 mod showing;
@@ -23,24 +23,24 @@ impl<M> Watch<M> {
     }
 }
 
-/// A slip (a linear token): it comes with each begun show, and `close` alone takes it back.
+/// A slip (a linear token): it comes unspent with each begun show, and `close` alone takes it back and spends it.
 pub struct Slip {
-    mark: (),
+    spent: bool,
 }
 
 impl Drop for Slip {
-    // Nobody can show what this asks, so no slip is let go unspent.
+    // No slip is let go unspent, and nobody but `close` spends one.
     fn drop(self)
-        requires { ⊥ }
+        requires { self.spent ≡ true }
     {
-        let Slip { mark: _ } = self;
+        let Slip { spent: _ } = self;
     }
 }
 
 impl Slip {
-    // Takes the slip apart.
-    fn spend(self) {
-        let Slip { mark: _ } = self;
+    // Spends the slip, and lets it go.
+    fn spend(mut self) {
+        self.spent = true;
     }
 }
 

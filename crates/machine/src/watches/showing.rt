@@ -1,5 +1,5 @@
 //! Beginning, cueing and closing a show.
-ghost use Rattle.std.specs.Prelude.{◌≡◌};
+ghost use Rattle.std.specs.Prelude.{◌≡◌, false};
 ghost use Rattle.machine.specs.Watch.{standing, begun, cue_answer, after_cue, closed, cue_number, WholeShow};
 
 use super::{Closed, CueRefusal, Slip, Watch};
@@ -20,9 +20,10 @@ impl CueRefusal {
 }
 
 impl<M: Machine> Watch<M> {
-    /// Begins a show over a machine.
+    /// Begins a show over a machine. The slip that comes with it is unspent.
     pub fn begin(machine: M) -> (Watch<M>, Slip)
         ensures begun { standing result.0 ≡ begun M.Machine.meaning machine }
+        ensures unspent { result.1.spent ≡ false }
         ensures whole_show { WholeShow M.Machine.meaning machine }
     {
         let position = machine.start();
@@ -31,7 +32,7 @@ impl<M: Machine> Watch<M> {
             position,
             taken: 0,
         };
-        (watch, Slip { mark: () })
+        (watch, Slip { spent: false })
     }
 
     /// Takes the next cue of the show. A refusal leaves the watch as it was.

@@ -1,6 +1,5 @@
-use Rattle.std.proofs.Common.{rules}
 use Rattle.machine.proofs.Showing.{whole_show}
 use Rattle.machine.proofs.watches.Watch.begin.Goals as goal
 
-pub returns : goal.returns
-returns g c = record { begun = search rules; whole_show = whole_show g.M.Machine.meaning c.args.machine }
+pub returns-clause-whole_show : goal.returns-clause-whole_show
+returns-clause-whole_show g c = whole_show g.M.Machine.meaning c.args.machine
