@@ -1,6 +1,6 @@
 -- The example table allows a show exactly when before every FLY a LOAD stands earlier.
 -- Assumes nothing.
-use Rattle.std.proofs.Common.{◌≡◌, ℕ, zero, suc, ◌<◌, true, false, [], ◌∷◌, get_or, Decides, refl, ap, ◌∙◌, arith, lit<}
+use Rattle.std.proofs.Common.{◌≡◌, ℕ, zero, suc, ◌<◌, false, [], ◌∷◌, get_or, Decides, refl, ap, ◌∙◌, arith, lit<}
 use Rattle.std.proofs.lemmas.Bool.Decides.{Decides-at, Decides-like}
 use Rattle.std.proofs.lemmas.Bool.{false≢true}
 use Rattle.machine.specs.Show.{Show, Cued}
@@ -58,5 +58,5 @@ module _ (m : Meaning) (means : Means m load_first) where
       (Decides-at _ false (rest s 2 2 (means.next 0 2 (lit< tt) (lit< tt)) ∙ ap m.closes (kept 2 early s h.1) ∙ means.closes 2 (lit< tt)) (λ e. absurd (false≢true e), λ f. absurd (not_fly s f)))
       c h.0
 
-  pub load_first : (s : Show) → Cued 3 s → Decides (allowed m s) (LoadFirst s)
-  load_first s h = Decides-at _ _ (ap (λ p. m.closes (led_from m.steps p s)) means.start) (from_start s h)
+  pub load_first_lem : (s : Show) → Cued 3 s → Decides (allowed m s) (LoadFirst s)
+  load_first_lem s h = Decides-at _ _ (ap (λ p. m.closes (led_from m.steps p s)) means.start) (from_start s h)

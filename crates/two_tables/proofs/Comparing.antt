@@ -7,12 +7,12 @@ use Rattle.search.specs.declared.states.Verdict.{Verdict}
 use Rattle.search.specs.declared.states.Verdict.TheVariants.{Unlike}
 use Rattle.search.specs.declared.states.ShowRefusal.{ShowRefusal}
 use Rattle.search.specs.declared.states.ShowRefusal.TheVariants.{NoShow}
-use Rattle.search.specs.Search.{recorded, after}
-use Rattle.search.specs.Calls.{Call, Advance, Tally, AskVerdict, WriteShow, Answer, Worked, Tallied, Told, Written, Strategy}
+use Rattle.search.specs.Search.{after}
+use Rattle.search.specs.Calls.{Advance, Tally, AskVerdict, WriteShow, Worked, Tallied, Told, Written, Strategy}
 use Rattle.search.specs.Truth.{TrueVerdict}
 use Rattle.search.specs.Runs.{ShowTold}
 use Rattle.bench.specs.declared.benches.Bench.{Bench}
-use Rattle.bench.specs.Bench.{Called, Handled, untouched, then_called, TellsTheTruth, StaysUnlike}
+use Rattle.bench.specs.Bench.{Called, untouched, then_called, TellsTheTruth, StaysUnlike}
 use Rattle.two_tables.specs.declared.Comparison.{Comparison}
 use Rattle.two_tables.specs.Comparing.{Compared, NotCompared}
 

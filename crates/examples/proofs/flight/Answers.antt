@@ -1,6 +1,6 @@
 use Rattle.machine.specs.Table.{table_meaning}
-use Rattle.examples.proofs.LoadFirst.{load_first}
+use Rattle.examples.proofs.LoadFirst.{load_first_lem}
 use Rattle.examples.proofs.flight.Goals as goal
 
 pub returns : goal.returns
-returns c = record { table = c.filled.ensures; rule = load_first (table_meaning c.filled.result) c.filled.ensures }
+returns c = record { table = c.filled.ensures; rule = load_first_lem (table_meaning c.filled.result) c.filled.ensures }
