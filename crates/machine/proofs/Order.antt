@@ -111,5 +111,5 @@ branching s c d h = inr (
   ),
 )
 
-pub show_order : ShowOrder
-show_order = record { irreflexive = irreflexive; transitive = transitive; total = total; appending = appending; branching = branching }
+pub show_order_lem : ShowOrder
+show_order_lem = record { irreflexive = irreflexive; transitive = transitive; total = total; appending = appending; branching = branching }
