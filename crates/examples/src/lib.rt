@@ -1,4 +1,4 @@
-//! Example tables over three cues, LOAD, HOLD and FLY, for the programs here to play and to compare.
+//! Example tables over three cues, LOAD, HOLD and FLY, for programs to play and to compare.
 
 #![tactic(auto)]
 
