@@ -45,12 +45,12 @@ impl Slip {
 }
 
 /// Why a cue is turned down.
-#[derive(Clone, Copy, PartialEq, Eq, Debug)]
+#[derive(Clone, Copy, Debug, PartialEq, Eq, Hash)]
 pub enum CueRefusal {
     /// The number is not below the cue count.
-    NoSuchCue,
+    NoSuchCue = 21,
     /// 10,000 cues are taken.
-    ShowFull,
+    ShowFull = 22,
 }
 
 /// A closed show.

@@ -14,12 +14,7 @@ impl FillRefusal {
     pub fn number(self) -> u8
         ensures { result ≡ fill_number self }
     {
-        match self {
-            FillRefusal::StateCount => 14,
-            FillRefusal::CueCount => 15,
-            FillRefusal::Length => 16,
-            FillRefusal::NoSuchState => 17,
-        }
+        self as u8
     }
 }
 
