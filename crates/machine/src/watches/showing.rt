@@ -1,9 +1,11 @@
 //! Beginning, cueing and closing a show.
-ghost use Rattle.std.specs.Prelude.{◌≡◌, false};
-ghost use Rattle.machine.specs.Watch.{standing, begun, cue_answer, after_cue, closed, cue_number, WholeShow};
+ghost use Rattle.std.specs.Prelude.{◌≡◌, false, Some};
+ghost use Rattle.machine.specs.Watch.{standing, begun, cue_answer, after_cue, closed, cue_number, cue_words, WholeShow};
 
 use super::{Closed, CueRefusal, Slip, Watch};
 use crate::machines::Machine;
+use std::error::Error;
+use std::fmt;
 
 const LONGEST: u16 = 10_000;
 
@@ -15,6 +17,19 @@ impl CueRefusal {
         self as u8
     }
 }
+
+impl fmt::Display for CueRefusal {
+    ghost output = { λ e. Some (cue_words e) };
+
+    fn fmt<W: fmt::Write>(&self, f: &mut fmt::Formatter<W>) -> fmt::Result {
+        f.write_str(match self {
+            CueRefusal::NoSuchCue => "the number is not below the cue count",
+            CueRefusal::ShowFull => "10,000 cues are taken",
+        })
+    }
+}
+
+impl Error for CueRefusal {}
 
 impl<M: Machine> Watch<M> {
     /// Begins a show over a machine. The slip that comes with it is unspent.
