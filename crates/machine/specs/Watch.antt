@@ -1,10 +1,11 @@
 -- Watches: what a running one means, what its calls do, and what they do over a whole show.
 -- Assumes nothing.
-use Rattle.std.specs.Prelude.{◌≡◌, ℕ, ◌+◌, ◌≤◌, List, [], ◌∷◌, ◌++◌, length, take, Ok, Err, filter, Result, nat_lt, codes, if◌then◌else◌}
+use Rattle.std.specs.Prelude.{◌≡◌, ℕ, ◌+◌, ◌≤◌, List, [], ◌∷◌, ◌++◌, length, take, Ok, Err, filter, Result, nat_lt, codes, IsTrue, if◌then◌else◌}
 use Rattle.std.specs.List.{AllByRecursion}
 use Rattle.machine.specs.Show.{Show, Cued}
 use Rattle.machine.specs.Meaning.{Meaning, leads_to, allowed}
 use Rattle.machine.specs.declared.watches.Watch.{Watch}
+use Rattle.machine.specs.declared.watches.Slip.{Slip}
 use Rattle.machine.specs.declared.watches.Closed.{Closed}
 use Rattle.machine.specs.declared.watches.CueRefusal.{CueRefusal}
 use Rattle.machine.specs.declared.watches.CueRefusal.TheVariants.{NoSuchCue, ShowFull}
@@ -31,6 +32,10 @@ pub record Standing (M : Type 0) : Type 0 where
 
 abbrev pub standing : {M : Type 0} → Watch M → Standing M
 standing w = record { machine = w.machine; position = w.position; taken = w.taken }
+
+-- The slip is spent: `close` has taken it back.
+abbrev pub IsSpent : Slip → Type 0
+IsSpent s = IsTrue s.spent
 
 -- Of numbers, one after the other, those that are cues, up to the most that a show takes.
 abbrev pub heard : ℕ → List ℕ → Show

@@ -1,6 +1,6 @@
 //! Beginning, cueing and closing a show.
-ghost use Rattle.std.specs.Prelude.{◌≡◌, false, Some};
-ghost use Rattle.machine.specs.Watch.{standing, begun, cue_answer, after_cue, closed, cue_number, cue_words, WholeShow};
+ghost use Rattle.std.specs.Prelude.{◌≡◌, Some};
+ghost use Rattle.machine.specs.Watch.{standing, IsSpent, begun, cue_answer, after_cue, closed, cue_number, cue_words, WholeShow};
 
 use super::{Closed, CueRefusal, Slip, Watch};
 use crate::machines::Machine;
@@ -35,7 +35,7 @@ impl<M: Machine> Watch<M> {
     /// Begins a show over a machine. The slip that comes with it is unspent.
     pub fn begin(machine: M) -> (Watch<M>, Slip)
         ensures begun { standing result.0 ≡ begun M.Machine.meaning machine }
-        ensures unspent { result.1.spent ≡ false }
+        ensures unspent { ¬ IsSpent result.1 }
         ensures whole_show { WholeShow M.Machine.meaning machine }
     {
         let position = machine.start();
