@@ -87,7 +87,7 @@ fn looked_over(states: u8, cues: u8, next: &[u8], closing: u64) -> Result<(), Fi
     if !(1..=MOST_CUES).contains(&cues) {
         return Err(FillRefusal::CueCount);
     }
-    if next.len() != states as usize * cues as usize {
+    if next.len() != usize::from(states) * usize::from(cues) {
         return Err(FillRefusal::Length);
     }
     if !all_below(next, states) || !bits_below(closing, states) {
@@ -117,6 +117,6 @@ fn padded(bytes: &[u8]) -> [u8; CELLS]
     ensures { result ≡ bytes.now ++ replicate (2048 - length bytes.now) 0 }
 {
     let mut all = [0; CELLS];
-    all[0..bytes.len()].copy_from_slice(bytes);
+    all[..bytes.len()].copy_from_slice(bytes);
     all
 }
