@@ -6,7 +6,7 @@ use Rattle.std.specs.Cmp.{IsTotalOrder}
 use Rattle.std.specs.Cmp.Lexicographic.{slice_cmp}
 use Rattle.std.specs.declared.cmp.Ordering.TheVariants.{Less, Equal, Greater}
 use Rattle.std.specs.declared.cmp.Ordering.{Ordering}
-use Rattle.std.proofs.lemmas.List.{get_or_append_left, get_or_push}
+use Rattle.std.proofs.lemmas.List.{places}
 use Rattle.std.proofs.lemmas.Bool.{cases_order}
 use Rattle.std.proofs.lemmas.Cmp.{ranked, then_total, on_total, nat_cmp_total, nat_list_cmp_total}
 use Rattle.machine.specs.Show.{Show, LowerAt, Earlier, Placed, ExactlyOne, ShowOrder}
@@ -92,19 +92,19 @@ transitive s t u h k =
     subst (λ o. Placed o s u) first (placed s u)
 
 -- A first difference stays where it is when a cue is added behind both shows.
-lower_before : (s t : Show) (c d i : ℕ) → length s ≡ length t → LowerAt s t i → LowerAt (s ++ c ∷ []) (t ++ d ∷ []) i
-lower_before s t c d i e p = record {
-  inside = simp length-append (omega (arith, p.inside));
-  agree = λ k h. kept s c k (omega (arith, p.inside)) ∙ p.agree k h ∙ sym (kept t d k (omega (arith, p.inside)));
-  smaller = omega (arith, p.smaller, kept s c i p.inside, kept t d i (omega (arith, p.inside)));
-}
-  where
-    kept : (u : Show) (x k : ℕ) → k < length u → get_or (u ++ x ∷ []) k 0 ≡ get_or u k 0
-    kept u x k h = get_or_append_left u (x ∷ []) 0 k h
-
 appending : (s t : Show) (c d : ℕ) → Earlier s t → Earlier (s ++ c ∷ []) (t ++ d ∷ [])
 appending s t c d (inl h) = inl (simp length-append (omega arith))
-appending s t c d (inr (e, (i, p))) = inr (simp length-append (omega arith), (i, lower_before s t c d i e p))
+appending s t c d (inr (e, (i, p))) = inr (
+  simp length-append (omega arith),
+  (
+    i,
+    record {
+      inside = simp length-append (omega (arith, p.inside));
+      agree = λ k h. grind (arith, places, p.inside, p.agree k h);
+      smaller = grind (arith, places, p.inside, p.smaller);
+    },
+  ),
+)
 
 branching : (s : Show) (c d : ℕ) → c < d → Earlier (s ++ c ∷ []) (s ++ d ∷ [])
 branching s c d h = inr (
@@ -113,8 +113,8 @@ branching s c d h = inr (
     length s,
     record {
       inside = simp length-append (omega arith);
-      agree = λ k lt. get_or_append_left s (c ∷ []) 0 k lt ∙ sym (get_or_append_left s (d ∷ []) 0 k lt);
-      smaller = omega (arith, get_or_push s c 0 (length s) refl, get_or_push s d 0 (length s) refl);
+      agree = λ k lt. grind (arith, places);
+      smaller = grind (arith, places);
     },
   ),
 )
