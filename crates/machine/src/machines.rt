@@ -35,8 +35,10 @@ pub trait Machine {
 pub fn leads_to<M: Machine>(machine: &M, show: &[u8]) -> u64
     ensures { result ≡ leads_to (M.Machine.meaning machine.now) show.now }
 {
-    show.iter()
-        .fold(machine.start(), |position, &cue| machine.next(position, cue))
+    show.iter().fold(
+        machine.start(),
+        |position, &cue| machine.next(position, cue),
+    )
 }
 
 /// Whether the machine allows a show: it may close where the show leads.

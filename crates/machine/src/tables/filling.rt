@@ -77,6 +77,15 @@ impl Table {
     }
 }
 
+impl Default for Table {
+    ghost is_default = { λ table. Holds table blank };
+
+    /// A new table.
+    fn default() -> Table {
+        Table::new()
+    }
+}
+
 // What is wrong first with a description of a table, if anything.
 fn looked_over(states: u8, cues: u8, next: &[u8], closing: u64) -> Result<(), FillRefusal>
     ensures { LookedOver result (described states cues next.now closing) }
