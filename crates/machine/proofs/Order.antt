@@ -1,6 +1,6 @@
 -- The laws of show order.
 -- Assumes nothing.
-use Rattle.std.proofs.Common.{◌≡◌, ℕ, zero, suc, ◌<◌, ◌≤◌, [], ◌∷◌, ◌++◌, length, get_or, sym, refl, ap, ◌∙◌, subst, inl, inr, ⊎_elim, arith, length-append, nat_cmp}
+use Rattle.std.proofs.Common.{◌≡◌, ℕ, zero, suc, ◌<◌, [], ◌∷◌, ◌++◌, length, get_or, sym, refl, ap, subst, inl, inr, ⊎_elim, arith, length-append, nat_cmp}
 use Rattle.std.specs.Ordering.{MatchOrdering, ordering_then}
 use Rattle.std.specs.Cmp.{IsTotalOrder}
 use Rattle.std.specs.Cmp.Lexicographic.{slice_cmp}
@@ -9,7 +9,7 @@ use Rattle.std.specs.declared.cmp.Ordering.{Ordering}
 use Rattle.std.proofs.lemmas.List.{places}
 use Rattle.std.proofs.lemmas.Bool.{cases_order}
 use Rattle.std.proofs.lemmas.Cmp.{ranked, then_total, on_total, nat_cmp_total, nat_list_cmp_total}
-use Rattle.machine.specs.Show.{Show, LowerAt, Earlier, Placed, ExactlyOne, ShowOrder}
+use Rattle.machine.specs.Show.{Show, Earlier, Placed, ExactlyOne, ShowOrder}
 
 -- A first difference lies one place further on behind a common first cue.
 earlier_behind : (c : ℕ) (s t : Show) → Earlier s t → Earlier (c ∷ s) (c ∷ t)
