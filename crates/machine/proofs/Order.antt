@@ -1,6 +1,7 @@
 -- The laws of show order.
 -- Assumes nothing.
-use Rattle.std.proofs.Common.{◌≡◌, ℕ, zero, suc, ◌<◌, [], ◌∷◌, ◌++◌, length, get_or, sym, refl, ap, subst, inl, inr, ⊎_elim, arith, length-append, nat_cmp}
+use Rattle.std.proofs.Common.{◌≡◌, ℕ, zero, suc, ◌<◌, [], ◌∷◌, ◌++◌, length, sym, refl, ap, subst, inl, inr, ⊎_elim, arith, length-append, nat_cmp}
+use Rattle.std.specs.Prelude.{slice_index}
 use Rattle.std.specs.Ordering.{MatchOrdering, ordering_then}
 use Rattle.std.specs.Cmp.{IsTotalOrder}
 use Rattle.std.specs.Cmp.Lexicographic.{slice_cmp}
@@ -16,7 +17,7 @@ earlier_behind : (c : ℕ) (s t : Show) → Earlier s t → Earlier (c ∷ s) (c
 earlier_behind c s t (inl h) = inl (omega arith)
 earlier_behind c s t (inr (e, (i, p))) = inr (omega arith, (suc i, record { inside = omega (arith, p.inside); agree = agree; smaller = p.smaller }))
   where
-    agree : (k : ℕ) → k < suc i → get_or (c ∷ s) k 0 ≡ get_or (c ∷ t) k 0
+    agree : (k : ℕ) → k < suc i → slice_index (c ∷ s) k ≡ slice_index (c ∷ t) k
     agree zero h = refl
     agree (suc k) h = p.agree k (omega arith)
 
