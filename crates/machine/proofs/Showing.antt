@@ -2,7 +2,6 @@
 -- Assumes nothing.
 use Rattle.std.proofs.Common.{◌≡◌, ℕ, zero, suc, ◌+◌, ◌≤◌, nat_lt, List, [], ◌∷◌, ◌++◌, length, take, Ok, filter, sym, refl, ap, ◌∙◌, arith, take_all}
 use Rattle.std.specs.List.{AllByRecursion}
-use Rattle.std.proofs.lemmas.Bool.{lt-ltb}
 use Rattle.std.proofs.lemmas.Bool.Decides.{nat_tests}
 use Rattle.machine.proofs.Leading.{led_append}
 use Rattle.machine.specs.Show.{Show, Cued}
@@ -13,7 +12,7 @@ use Rattle.machine.specs.Watch.{Standing, standing, longest, watch_meaning, begu
 -- A show of cues is kept whole.
 cues_kept : (count : ℕ) (s : Show) → Cued count s → filter (λ c. nat_lt c count) s ≡ s
 cues_kept count [] h = refl
-cues_kept count (c ∷ s) h = rw (lt-ltb c count h.0) (ap (λ l. c ∷ l) (cues_kept count s h.1))
+cues_kept count (c ∷ s) h = grind (arith, nat_tests, h.0, cues_kept count s h.1)
 
 module _ {M : Type 0} (meaning : M → Meaning) (x : M) where
   abbrev count : ℕ
@@ -27,8 +26,8 @@ module _ {M : Type 0} (meaning : M → Meaning) (x : M) where
 
   -- From a position p with t cues taken and room for n more.
   stands_from : (p t n : ℕ) (calls : List ℕ) → t + n ≡ longest → after_cues meaning (at p t) calls ≡ at (led_from (meaning x).steps p (take n (cues_of calls))) (t + length (take n (cues_of calls)))
-  stands_from p t zero [] room = ap (at p) (omega arith)
-  stands_from p t (suc n) [] room = ap (at p) (omega arith)
+  stands_from p t zero [] room = grind arith
+  stands_from p t (suc n) [] room = grind arith
   stands_from p t zero (c ∷ s) room = grind (arith, nat_tests, stands_from p t zero s room)
   stands_from p t (suc n) (c ∷ s) room = grind (arith, nat_tests, stands_from p t (suc n) s room, stands_from ((meaning x).steps.next p c) (t + 1) n s (omega arith))
 
@@ -36,8 +35,7 @@ module _ {M : Type 0} (meaning : M → Meaning) (x : M) where
   taken_from p t n [] room h short = tt
   taken_from p t zero (c ∷ s) room h short = absurd (omega arith)
   taken_from p t (suc n) (c ∷ s) room h short =
-      rw (lt-ltb c count h.0, lt-ltb t longest (omega arith))
-      (refl, taken_from ((meaning x).steps.next p c) (t + 1) n s (omega arith) h.1 (omega arith))
+      grind (arith, nat_tests, h.0, taken_from ((meaning x).steps.next p c) (t + 1) n s (omega arith) h.1 (omega arith))
 
   stands : (calls : List ℕ) → after_cues meaning (begun meaning x) calls ≡ at (leads_to (meaning x) (heard count calls)) (length (heard count calls))
   stands calls = stands_from (meaning x).steps.start 0 longest calls refl ∙ ap (at _) (omega arith)
