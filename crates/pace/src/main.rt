@@ -32,9 +32,9 @@ fn lay(next: &mut [u8], states: u8, first: u8)
     requires { 1 ≤ states }
     ensures { Laid states first next.new }
 {
-    for i in 0..next.len() {
+    for (i, cell) in next.iter_mut().enumerate() {
         let cue = (i % 32) as u8;
-        next[i] = ((i / 32 + turn(first, cue) as usize) % states as usize) as u8;
+        *cell = ((i / 32 + turn(first, cue) as usize) % states as usize) as u8;
     }
 }
 
@@ -68,10 +68,8 @@ fn compare() -> anyhow::Result<u16> {
 
 // The argument, or few.
 fn times(rt: &HostRuntime) -> anyhow::Result<u32> {
-    let mut words = env::args(rt)?;
-    let _ = words.next();
-    match words.next() {
-        Some(word) => Ok(word.as_str().parse::<u32>()?),
+    match env::args(rt)?.nth(1) {
+        Some(word) => Ok(word.as_str().parse()?),
         None => Ok(FEW),
     }
 }
