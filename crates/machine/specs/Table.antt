@@ -1,6 +1,6 @@
 -- Tables: what one means, and what filling one does.
 -- Assumes nothing.
-use Rattle.std.specs.Prelude.{◌≡◌, ℕ, ◌+◌, ◌-◌, ◌*◌, ◌/◌, ◌%◌, ◌^◌, ◌<◌, ◌≤◌, Bool, false, cond, ◌&&◌, ◌⊎◌, List, [], ◌∷◌, ◌++◌, length, replicate, Result, MatchResult, ◌==◌, nat_lt, slice_index}
+use Rattle.std.specs.Prelude.{◌≡◌, ℕ, ◌+◌, ◌-◌, ◌*◌, ◌/◌, ◌%◌, ◌^◌, ◌<◌, ◌≤◌, Bool, false, ◌&&◌, ◌⊎◌, List, [], ◌∷◌, ◌++◌, length, replicate, Result, MatchResult, ◌==◌, nat_lt, slice_index, take, codes, if◌then◌else◌}
 use Rattle.machine.specs.Show.{AllBelow}
 use Rattle.machine.specs.Meaning.{Meaning}
 use Rattle.machine.specs.declared.tables.Table.{Table}
@@ -18,7 +18,7 @@ table_meaning t = record {
   steps = record {
     cues = t.cues;
     start = 0;
-    next = λ p c. cond (nat_lt p t.states && nat_lt c t.cues) (slice_index t.next (p * t.cues + c)) p;
+    next = λ p c. if nat_lt p t.states && nat_lt c t.cues then slice_index t.next (p * t.cues + c) else p;
   };
   closes = λ p. nat_lt p t.states && bit t.closing p;
 }
@@ -33,6 +33,10 @@ pub record Description : Type 0 where
 
 abbrev pub described : ℕ → ℕ → List ℕ → ℕ → Description
 described s c bytes closing = record { states = s; cues = c; next = bytes; closing = closing }
+
+-- The description that a table holds: of the places for next states, only those of its own states and cues.
+abbrev pub description_of : Table → Description
+description_of t = described t.states t.cues (take (t.states * t.cues) t.next) t.closing
 
 -- What is asked of a description, in the order in which it is looked at.
 abbrev pub StatesRight : Description → Type 0
@@ -67,6 +71,13 @@ fill_number StateCount = 14
 fill_number CueCount = 15
 fill_number Length = 16
 fill_number NoSuchState = 17
+
+-- What is printed of the refusals.
+abbrev pub fill_words : FillRefusal → List ℕ
+fill_words StateCount = codes "the state count is not 1 to 64"
+fill_words CueCount = codes "the cue count is not 1 to 32"
+fill_words Length = codes "there is not one byte for each state and cue"
+fill_words NoSuchState = codes "a byte or a closing bit names no state"
 
 -- The table holds exactly what is described, and 0 in the places beyond.
 pub record Holds (t : Table) (d : Description) : Type 0 where

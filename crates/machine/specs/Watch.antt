@@ -1,10 +1,11 @@
 -- Watches: what a running one means, what its calls do, and what they do over a whole show.
 -- Assumes nothing.
-use Rattle.std.specs.Prelude.{◌≡◌, ℕ, ◌+◌, ◌≤◌, cond, List, [], ◌∷◌, ◌++◌, length, take, Ok, Err, filter, Result, nat_lt}
+use Rattle.std.specs.Prelude.{◌≡◌, ℕ, ◌+◌, ◌≤◌, List, [], ◌∷◌, ◌++◌, length, take, Ok, Err, filter, Result, nat_lt, codes, IsTrue, if◌then◌else◌}
 use Rattle.std.specs.List.{AllByRecursion}
 use Rattle.machine.specs.Show.{Show, Cued}
 use Rattle.machine.specs.Meaning.{Meaning, leads_to, allowed}
 use Rattle.machine.specs.declared.watches.Watch.{Watch}
+use Rattle.machine.specs.declared.watches.Slip.{Slip}
 use Rattle.machine.specs.declared.watches.Closed.{Closed}
 use Rattle.machine.specs.declared.watches.CueRefusal.{CueRefusal}
 use Rattle.machine.specs.declared.watches.CueRefusal.TheVariants.{NoSuchCue, ShowFull}
@@ -18,6 +19,11 @@ abbrev pub cue_number : CueRefusal → ℕ
 cue_number NoSuchCue = 21
 cue_number ShowFull = 22
 
+-- What is printed of the refusals.
+abbrev pub cue_words : CueRefusal → List ℕ
+cue_words NoSuchCue = codes "the number is not below the cue count"
+cue_words ShowFull = codes "10,000 cues are taken"
+
 -- Where a watch stands: its machine, the position reached and the number of cues taken.
 pub record Standing (M : Type 0) : Type 0 where
   pub machine : M
@@ -26,6 +32,10 @@ pub record Standing (M : Type 0) : Type 0 where
 
 abbrev pub standing : {M : Type 0} → Watch M → Standing M
 standing w = record { machine = w.machine; position = w.position; taken = w.taken }
+
+-- The slip is spent: `close` has taken it back.
+abbrev pub IsSpent : Slip → Type 0
+IsSpent s = IsTrue s.spent
 
 -- Of numbers, one after the other, those that are cues, up to the most that a show takes.
 abbrev pub heard : ℕ → List ℕ → Show
@@ -47,7 +57,10 @@ module _ {M : Type 0} (meaning : M → Meaning) where
 
   -- How a cue is answered: turned down when it is not below the count, then when the show is full.
   abbrev pub cue_answer : Standing M → ℕ → Result Unit CueRefusal
-  cue_answer w c = cond (nat_lt c (meaning w.machine).steps.cues) (cond (nat_lt w.taken longest) (Ok tt) (Err ShowFull)) (Err NoSuchCue)
+  cue_answer w c =
+      if nat_lt c (meaning w.machine).steps.cues
+      then if nat_lt w.taken longest then Ok tt else Err ShowFull
+      else Err NoSuchCue
 
   -- A cue that is taken moves the watch; one that is turned down changes nothing.
   abbrev pub moved : Result Unit CueRefusal → Standing M → ℕ → Standing M

@@ -24,14 +24,14 @@ pub struct Table {
 }
 
 /// Why a table is not filled.
-#[derive(Clone, Copy, PartialEq, Eq, Debug)]
+#[derive(Clone, Copy, Debug, PartialEq, Eq, Hash)]
 pub enum FillRefusal {
     /// The state count is not 1 to 64.
-    StateCount,
+    StateCount = 14,
     /// The cue count is not 1 to 32.
-    CueCount,
+    CueCount = 15,
     /// There is not one byte for each state and cue.
-    Length,
+    Length = 16,
     /// A byte or a closing bit names no state.
-    NoSuchState,
+    NoSuchState = 17,
 }

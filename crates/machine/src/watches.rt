@@ -1,5 +1,5 @@
-//! The types of watches and slips. Their calls are in the modules below.
-ghost use Rattle.std.specs.Prelude.{◌≡◌, true, ◌^◌, ◌<◌, ◌≤◌};
+//! The types of watches and slips. Beginning, cueing and closing a show are in the modules below.
+ghost use Rattle.std.specs.Prelude.{◌^◌, ◌<◌, ◌≤◌};
 
 mod machine;
 mod showing;
@@ -15,9 +15,12 @@ pub struct Watch<M> {
 }
 
 impl<M> Watch<M> {
+    ghost use Rattle.std.specs.Prelude.{◌≡◌};
+    ghost use Rattle.machine.specs.Watch.{standing};
+
     /// How many cues the show has taken.
     pub fn taken(&self) -> u16
-        ensures { result ≡ self.now.taken }
+        ensures { result ≡ (standing self.now).taken }
     {
         self.taken
     }
@@ -29,9 +32,11 @@ pub struct Slip {
 }
 
 impl Drop for Slip {
+    ghost use Rattle.machine.specs.Watch.{IsSpent};
+
     // No slip is let go unspent, and nobody but `close` spends one.
     fn drop(self)
-        requires { self.spent ≡ true }
+        requires { IsSpent self }
     {
         let Slip { spent: _ } = self;
     }
@@ -45,12 +50,12 @@ impl Slip {
 }
 
 /// Why a cue is turned down.
-#[derive(Clone, Copy, PartialEq, Eq, Debug)]
+#[derive(Clone, Copy, Debug, PartialEq, Eq, Hash)]
 pub enum CueRefusal {
     /// The number is not below the cue count.
-    NoSuchCue,
+    NoSuchCue = 21,
     /// 10,000 cues are taken.
-    ShowFull,
+    ShowFull = 22,
 }
 
 /// A closed show.

@@ -1,9 +1,11 @@
 //! Making and filling a table.
-ghost use Rattle.std.specs.Prelude.{◌≡◌, ◌-◌, ◌^◌, ◌<◌, ◌≤◌, ◌++◌, length, replicate, Decides};
+ghost use Rattle.std.specs.Prelude.{◌≡◌, ◌-◌, ◌^◌, ◌<◌, ◌≤◌, ◌↔◌, ◌++◌, Some, length, replicate, IsTrue};
 ghost use Rattle.machine.specs.Show.{AllBelow};
-ghost use Rattle.machine.specs.Table.{described, LookedOver, Filled, Holds, fill_number, blank};
+ghost use Rattle.machine.specs.Table.{described, description_of, LookedOver, Filled, Holds, fill_number, fill_words, blank};
 
 use super::{CELLS, FillRefusal, Table};
+use std::error::Error;
+use std::fmt;
 
 const MOST_STATES: u8 = 64;
 
@@ -14,14 +16,24 @@ impl FillRefusal {
     pub fn number(self) -> u8
         ensures { result ≡ fill_number self }
     {
-        match self {
-            FillRefusal::StateCount => 14,
-            FillRefusal::CueCount => 15,
-            FillRefusal::Length => 16,
-            FillRefusal::NoSuchState => 17,
-        }
+        self as u8
     }
 }
+
+impl fmt::Display for FillRefusal {
+    ghost output = { λ e. Some (fill_words e) };
+
+    fn fmt<W: fmt::Write>(&self, f: &mut fmt::Formatter<W>) -> fmt::Result {
+        f.write_str(match self {
+            FillRefusal::StateCount => "the state count is not 1 to 64",
+            FillRefusal::CueCount => "the cue count is not 1 to 32",
+            FillRefusal::Length => "there is not one byte for each state and cue",
+            FillRefusal::NoSuchState => "a byte or a closing bit names no state",
+        })
+    }
+}
+
+impl Error for FillRefusal {}
 
 impl Table {
     /// A table of one state and one cue, which closes nowhere.
@@ -59,7 +71,7 @@ impl Table {
 
     /// How many states the table has.
     pub fn states(&self) -> u8
-        ensures { result ≡ self.now.states }
+        ensures { result ≡ (description_of self.now).states }
     {
         self.states
     }
@@ -69,10 +81,10 @@ impl Table {
 fn looked_over(states: u8, cues: u8, next: &[u8], closing: u64) -> Result<(), FillRefusal>
     ensures { LookedOver result (described states cues next.now closing) }
 {
-    if states < 1 || states > MOST_STATES {
+    if !(1..=MOST_STATES).contains(&states) {
         return Err(FillRefusal::StateCount);
     }
-    if cues < 1 || cues > MOST_CUES {
+    if !(1..=MOST_CUES).contains(&cues) {
         return Err(FillRefusal::CueCount);
     }
     if next.len() != states as usize * cues as usize {
@@ -86,20 +98,15 @@ fn looked_over(states: u8, cues: u8, next: &[u8], closing: u64) -> Result<(), Fi
 
 // Whether each byte is below a limit.
 fn all_below(bytes: &[u8], limit: u8) -> bool
-    ensures { Decides result (AllBelow limit bytes.now) }
+    ensures { IsTrue result ↔ AllBelow limit bytes.now }
 {
-    for b in bytes {
-        if *b >= limit {
-            return false;
-        }
-    }
-    true
+    bytes.iter().all(|&b| b < limit)
 }
 
 // Whether a number has no bit set from a place on.
 fn bits_below(bits: u64, count: u8) -> bool
     requires { count ≤ 64 }
-    ensures { Decides result (bits < 2 ^ count) }
+    ensures { IsTrue result ↔ (bits < 2 ^ count) }
 {
     count == 64 || bits < 1 << count
 }

@@ -1,9 +1,11 @@
 //! Beginning, cueing and closing a show.
-ghost use Rattle.std.specs.Prelude.{◌≡◌, false};
-ghost use Rattle.machine.specs.Watch.{standing, begun, cue_answer, after_cue, closed, cue_number, WholeShow};
+ghost use Rattle.std.specs.Prelude.{◌≡◌, Some};
+ghost use Rattle.machine.specs.Watch.{standing, IsSpent, begun, cue_answer, after_cue, closed, cue_number, cue_words, WholeShow};
 
 use super::{Closed, CueRefusal, Slip, Watch};
 use crate::machines::Machine;
+use std::error::Error;
+use std::fmt;
 
 const LONGEST: u16 = 10_000;
 
@@ -12,18 +14,28 @@ impl CueRefusal {
     pub fn number(self) -> u8
         ensures { result ≡ cue_number self }
     {
-        match self {
-            CueRefusal::NoSuchCue => 21,
-            CueRefusal::ShowFull => 22,
-        }
+        self as u8
     }
 }
+
+impl fmt::Display for CueRefusal {
+    ghost output = { λ e. Some (cue_words e) };
+
+    fn fmt<W: fmt::Write>(&self, f: &mut fmt::Formatter<W>) -> fmt::Result {
+        f.write_str(match self {
+            CueRefusal::NoSuchCue => "the number is not below the cue count",
+            CueRefusal::ShowFull => "10,000 cues are taken",
+        })
+    }
+}
+
+impl Error for CueRefusal {}
 
 impl<M: Machine> Watch<M> {
     /// Begins a show over a machine. The slip that comes with it is unspent.
     pub fn begin(machine: M) -> (Watch<M>, Slip)
         ensures begun { standing result.0 ≡ begun M.Machine.meaning machine }
-        ensures unspent { result.1.spent ≡ false }
+        ensures unspent { ¬ IsSpent result.1 }
         ensures whole_show { WholeShow M.Machine.meaning machine }
     {
         let position = machine.start();
