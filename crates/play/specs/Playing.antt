@@ -18,7 +18,7 @@ FliesAfterLoad w = (s : Show) → Cued 3 s → IsTrue (allowed (watch_meaning ta
 -- The answer is the watch's own, and of a cue taken it tells where the watch stands then and whether the show may close there.
 abbrev pub Told : Result Stand CueRefusal → Watch Table → Watch Table → ℕ → Type 0
 Told r before after c = MatchResult r
-    (λ s. (cue_answer table_meaning (standing before) c ≡ Ok tt) × (s.position ≡ after.position) × (s.may_close ≡ (watch_meaning table_meaning after).closes s.position))
+    (λ s. (cue_answer table_meaning (standing before) c ≡ Ok tt) × (s.position ≡ (standing after).position) × (s.may_close ≡ (watch_meaning table_meaning after).closes s.position))
     (λ e. cue_answer table_meaning (standing before) c ≡ Err e)
 
 -- A stand as it is printed.
