@@ -7,7 +7,7 @@ ghost use Rattle.std.specs.Prelude.{◌≡◌, ◌*◌, ◌/◌, ◌≤◌, max,
 ghost use Rattle.machine.specs.Table.{table_meaning};
 ghost use Rattle.pace.specs.Wheel.{turns, Laid, Wheel};
 
-use anyhow::anyhow;
+use anyhow::Context;
 use bench::Bench;
 use machine::{Machine, Table};
 use std::env;
@@ -45,10 +45,10 @@ fn laid(next: &mut [u8], states: u8, first: u8) -> anyhow::Result<Table>
 {
     lay(next, states, first);
     let mut table = Table::new();
-    match table.fill(states, 32, next, 0) {
-        Ok(()) => Ok(table),
-        Err(_) => Err(anyhow!("the wheel is no table")),
-    }
+    table
+        .fill(states, 32, next, 0)
+        .context("the wheel is no table")?;
+    Ok(table)
 }
 
 // Such a wheel, in bytes of its own.
