@@ -13,9 +13,9 @@ use examples::{flight, name};
 use machine::{CueRefusal, Machine, Slip, Table, Watch};
 use std::fmt;
 
-/// Where a show stands: the position reached, and whether the show may close there.
+// Where a show stands: the position reached, and whether the show may close there.
 #[derive(Drop)]
-pub struct Stand {
+struct Stand {
     position: u64,
     may_close: bool,
 }
