@@ -2,7 +2,7 @@
 
 #![tactic(auto)]
 
-ghost use Rattle.std.specs.Prelude.{◌≡◌, min, MatchOption, Some};
+ghost use Rattle.std.specs.Prelude.{◌≡◌, ◌↔◌, min, IsTrue, MatchOption, Some};
 ghost use Rattle.std.specs.Str.Parse.{IsNumeral, digits_value};
 ghost use Rattle.machine.specs.Table.{Means, table_meaning};
 ghost use Rattle.machine.specs.Watch.{standing, after_cue};
@@ -38,12 +38,19 @@ fn begin() -> (Watch<Table>, Slip)
     Watch::begin(flight())
 }
 
+// Whether a line is one or more decimal digits.
+fn is_numeral(line: &str) -> bool
+    ensures { IsTrue result ↔ IsNumeral 10 line.now }
+{
+    !line.is_empty() && line.as_bytes().iter().all(|b| b.is_ascii_digit())
+}
+
 // The decimal number on a line. One above 255 is read as 255, since neither is a cue of any machine.
 fn number(line: &str) -> Option<u8>
     ensures { MatchOption result (¬ (IsNumeral 10 line.now))
         (λ n. IsNumeral 10 line.now × (n ≡ min 255 (digits_value 10 line.now))) }
 {
-    if line.is_empty() || !line.as_bytes().iter().all(|b| b.is_ascii_digit()) {
+    if !is_numeral(line) {
         return None;
     }
     Some(u8::from_str_radix(line, 10).unwrap_or(u8::MAX))
