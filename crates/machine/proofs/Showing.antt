@@ -1,8 +1,9 @@
 -- The law over whole shows: a watch stands where the show that it heard leads.
 -- Assumes nothing.
-use Rattle.std.proofs.Common.{◌≡◌, ℕ, zero, suc, ◌+◌, ◌≤◌, ltb, List, [], ◌∷◌, ◌++◌, length, take, Ok, filter, sym, refl, ap, ◌∙◌, ⊎_elim, arith, take_all}
+use Rattle.std.proofs.Common.{◌≡◌, ℕ, zero, suc, ◌+◌, ◌≤◌, nat_lt, List, [], ◌∷◌, ◌++◌, length, take, Ok, filter, sym, refl, ap, ◌∙◌, arith, take_all}
 use Rattle.std.specs.List.{AllByRecursion}
-use Rattle.std.proofs.lemmas.Bool.{cases_Bool, lt-ltb, le-ltb}
+use Rattle.std.proofs.lemmas.Bool.{lt-ltb}
+use Rattle.std.proofs.lemmas.Bool.Decides.{nat_tests}
 use Rattle.machine.proofs.Leading.{led_append}
 use Rattle.machine.specs.Show.{Show, Cued}
 use Rattle.machine.specs.Meaning.{Meaning, led_from, leads_to, allowed}
@@ -10,7 +11,7 @@ use Rattle.machine.specs.declared.watches.Watch.{Watch}
 use Rattle.machine.specs.Watch.{Standing, standing, longest, watch_meaning, begun, after_cues, answers, closed, heard, WholeShow}
 
 -- A show of cues is kept whole.
-cues_kept : (count : ℕ) (s : Show) → Cued count s → filter (λ c. ltb c count) s ≡ s
+cues_kept : (count : ℕ) (s : Show) → Cued count s → filter (λ c. nat_lt c count) s ≡ s
 cues_kept count [] h = refl
 cues_kept count (c ∷ s) h = rw (lt-ltb c count h.0) (ap (λ l. c ∷ l) (cues_kept count s h.1))
 
@@ -22,20 +23,14 @@ module _ {M : Type 0} (meaning : M → Meaning) (x : M) where
   at p t = record { machine = x; position = p; taken = t }
 
   abbrev cues_of : List ℕ → Show
-  cues_of calls = filter (λ c. ltb c count) calls
+  cues_of calls = filter (λ c. nat_lt c count) calls
 
   -- From a position p with t cues taken and room for n more.
   stands_from : (p t n : ℕ) (calls : List ℕ) → t + n ≡ longest → after_cues meaning (at p t) calls ≡ at (led_from (meaning x).steps p (take n (cues_of calls))) (t + length (take n (cues_of calls)))
   stands_from p t zero [] room = ap (at p) (omega arith)
   stands_from p t (suc n) [] room = ap (at p) (omega arith)
-  stands_from p t zero (c ∷ s) room = ⊎_elim
-      (λ e. rw (e, le-ltb t longest (omega arith)) (stands_from p t zero s room))
-      (λ e. rw e (stands_from p t zero s room))
-      (cases_Bool (ltb c count))
-  stands_from p t (suc n) (c ∷ s) room = ⊎_elim
-      (λ e. rw (e, lt-ltb t longest (omega arith)) (stands_from ((meaning x).steps.next p c) (t + 1) n s (omega arith) ∙ ap (at _) (omega arith)))
-      (λ e. rw e (stands_from p t (suc n) s room))
-      (cases_Bool (ltb c count))
+  stands_from p t zero (c ∷ s) room = grind (arith, nat_tests, stands_from p t zero s room)
+  stands_from p t (suc n) (c ∷ s) room = grind (arith, nat_tests, stands_from p t (suc n) s room, stands_from ((meaning x).steps.next p c) (t + 1) n s (omega arith))
 
   taken_from : (p t n : ℕ) (s : Show) → t + n ≡ longest → Cued count s → length s ≤ n → AllByRecursion (λ a. a ≡ Ok tt) (answers meaning (at p t) s)
   taken_from p t n [] room h short = tt

@@ -1,6 +1,6 @@
 -- What a machine means, and what its meaning says of shows.
 -- Assumes nothing.
-use Rattle.std.specs.Prelude.{◌≡◌, ℕ, ◌^◌, ◌<◌, ◌≤◌, Bool, true, ◌⊎◌, [], ◌∷◌}
+use Rattle.std.specs.Prelude.{◌≡◌, ℕ, ◌^◌, ◌<◌, ◌≤◌, Bool, true, ◌⊎◌, fold}
 use Rattle.machine.specs.Show.{Show}
 
 -- The stepping half: the cue count, the start position, and the next position for every position and cue.
@@ -16,8 +16,7 @@ pub record Meaning : Type 0 where
 
 -- The position to which a show leads from a given one, cue by cue.
 abbrev pub led_from : Stepping → ℕ → Show → ℕ
-led_from m p [] = p
-led_from m p (c ∷ s) = led_from m (m.next p c) s
+led_from m p s = fold m.next p s
 
 -- The position to which a show leads.
 abbrev pub leads_to : Meaning → Show → ℕ

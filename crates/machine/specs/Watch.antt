@@ -1,7 +1,7 @@
 -- Watches: what a running one means, what its calls do, and what they do over a whole show.
 -- Assumes nothing.
-use Rattle.std.specs.Prelude.{◌≡◌, ℕ, ◌+◌, ◌≤◌, List, [], ◌∷◌, ◌++◌, length, take, Ok, Err, filter, Result, nat_lt, codes, IsTrue, if◌then◌else◌}
-use Rattle.std.specs.List.{AllByRecursion}
+use Rattle.std.specs.Prelude.{◌≡◌, ℕ, ◌+◌, ◌≤◌, List, ◌++◌, length, take, fold, Ok, Err, filter, Result, nat_lt, codes, IsTrue, if◌then◌else◌}
+use Rattle.std.specs.List.{AllByRecursion, scan}
 use Rattle.machine.specs.Show.{Show, Cued}
 use Rattle.machine.specs.Meaning.{Meaning, leads_to, allowed}
 use Rattle.machine.specs.declared.watches.Watch.{Watch}
@@ -76,12 +76,10 @@ module _ {M : Type 0} (meaning : M → Meaning) where
 
   -- Where a watch stands after calls of cue, one after the other, and how the calls are answered.
   abbrev pub after_cues : Standing M → List ℕ → Standing M
-  after_cues w [] = w
-  after_cues w (c ∷ s) = after_cues (after_cue w c) s
+  after_cues w calls = fold after_cue w calls
 
   abbrev pub answers : Standing M → List ℕ → List (Result Unit CueRefusal)
-  answers w [] = []
-  answers w (c ∷ s) = cue_answer w c ∷ answers (after_cue w c) s
+  answers w calls = scan after_cue cue_answer w calls
 
   -- The show that a watch over the machine x hears of calls of cue.
   abbrev pub heard_by : M → List ℕ → Show

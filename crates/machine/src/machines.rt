@@ -1,5 +1,5 @@
 //! The trait of every machine, and what any machine says of a show.
-ghost use Rattle.std.specs.Prelude.{◌≡◌, Decides};
+ghost use Rattle.std.specs.Prelude.{◌≡◌, ◌↔◌, IsTrue};
 ghost use Rattle.machine.specs.Meaning.{Meaning, Lawful, leads_to, allowed, Divides};
 
 /// A machine (a deterministic automaton): it has a cue count, a start position, a next position for every position and
@@ -35,11 +35,10 @@ pub trait Machine {
 pub fn leads_to<M: Machine>(machine: &M, show: &[u8]) -> u64
     ensures { result ≡ leads_to (M.Machine.meaning machine.now) show.now }
 {
-    let mut position = machine.start();
-    for cue in show {
-        position = machine.next(position, *cue);
-    }
-    position
+    show.iter().fold(
+        machine.start(),
+        |position, &cue| machine.next(position, cue),
+    )
 }
 
 /// Whether the machine allows a show: it may close where the show leads.
@@ -51,7 +50,7 @@ pub fn allows<M: Machine>(machine: &M, show: &[u8]) -> bool
 
 /// Whether a show divides (distinguishes) two machines: exactly one of them allows it.
 pub fn divides<L: Machine, R: Machine>(left: &L, right: &R, show: &[u8]) -> bool
-    ensures { Decides result (Divides (L.Machine.meaning left.now) (R.Machine.meaning right.now) show.now) }
+    ensures { IsTrue result ↔ Divides (L.Machine.meaning left.now) (R.Machine.meaning right.now) show.now }
 {
     allows(left, show) != allows(right, show)
 }

@@ -8,19 +8,5 @@ pub fn show_order(s: &[u8], t: &[u8]) -> Ordering
     ensures placed { Placed result s.now t.now }
     ensures laws { ShowOrder }
 {
-    if s.len() < t.len() {
-        return Ordering::Less;
-    }
-    if s.len() > t.len() {
-        return Ordering::Greater;
-    }
-    for (i, cue) in s.iter().enumerate() {
-        if *cue < t[i] {
-            return Ordering::Less;
-        }
-        if *cue > t[i] {
-            return Ordering::Greater;
-        }
-    }
-    Ordering::Equal
+    s.len().cmp(&t.len()).then_with(|| s.cmp(&t))
 }

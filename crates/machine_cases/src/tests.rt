@@ -1,66 +1,65 @@
 //! Tables at their limits, watches at the longest show, and shows in order.
 use super::rehearse;
-use machine::{Closed, CueRefusal, Machine, Table, Watch, allows, divides, leads_to, show_order};
+use machine::{
+    Closed, CueRefusal, FillRefusal, Machine, Table, Watch, allows, divides, leads_to, show_order,
+};
 use std::cmp::Ordering;
 use std::test::Fail;
 
-// What a table is filled from: counts, how many bytes of one value, and the closing bits. Then the refusal that is due, 0 for none.
-struct Fill(u8, u8, usize, u8, u64, u8);
+// What a table is filled from: state count, cue count, how many bytes of one value, that value, and the closing bits.
+struct Fill(u8, u8, usize, u8, u64);
 
-const FILLS: [Fill; 23] = [
-    Fill(1, 1, 1, 0, 0, 0),
-    Fill(1, 1, 1, 0, 1, 0),
-    Fill(1, 32, 32, 0, 1, 0),
-    Fill(64, 1, 64, 63, u64::MAX, 0),
-    Fill(64, 32, 2048, 63, u64::MAX, 0),
-    Fill(63, 32, 2016, 62, u64::MAX / 2, 0),
+// What a table is filled from, and the number of the refusal that is due, if any.
+const FILLS: [(Fill, Option<u8>); 23] = [
+    (Fill(1, 1, 1, 0, 0), None),
+    (Fill(1, 1, 1, 0, 1), None),
+    (Fill(1, 32, 32, 0, 1), None),
+    (Fill(64, 1, 64, 63, u64::MAX), None),
+    (Fill(64, 32, 2048, 63, u64::MAX), None),
+    (Fill(63, 32, 2016, 62, u64::MAX / 2), None),
     // the state count
-    Fill(0, 1, 0, 0, 0, 14),
-    Fill(65, 1, 65, 0, 0, 14),
-    Fill(255, 1, 255, 0, 0, 14),
+    (Fill(0, 1, 0, 0, 0), Some(14)),
+    (Fill(65, 1, 65, 0, 0), Some(14)),
+    (Fill(255, 1, 255, 0, 0), Some(14)),
     // the cue count
-    Fill(1, 0, 0, 0, 0, 15),
-    Fill(1, 33, 33, 0, 0, 15),
-    Fill(1, 255, 255, 0, 0, 15),
+    (Fill(1, 0, 0, 0, 0), Some(15)),
+    (Fill(1, 33, 33, 0, 0), Some(15)),
+    (Fill(1, 255, 255, 0, 0), Some(15)),
     // the length
-    Fill(1, 1, 0, 0, 0, 16),
-    Fill(1, 1, 2, 0, 0, 16),
-    Fill(64, 32, 2047, 0, 0, 16),
-    Fill(64, 32, 2049, 0, 0, 16),
+    (Fill(1, 1, 0, 0, 0), Some(16)),
+    (Fill(1, 1, 2, 0, 0), Some(16)),
+    (Fill(64, 32, 2047, 0, 0), Some(16)),
+    (Fill(64, 32, 2049, 0, 0), Some(16)),
     // a byte or a bit that names no state
-    Fill(1, 1, 1, 1, 0, 17),
-    Fill(64, 32, 2048, 64, 0, 17),
-    Fill(1, 1, 1, 0, 2, 17),
-    Fill(63, 32, 2016, 62, u64::MAX, 17),
+    (Fill(1, 1, 1, 1, 0), Some(17)),
+    (Fill(64, 32, 2048, 64, 0), Some(17)),
+    (Fill(1, 1, 1, 0, 2), Some(17)),
+    (Fill(63, 32, 2016, 62, u64::MAX), Some(17)),
     // the order of the checks
-    Fill(0, 0, 7, 9, u64::MAX, 14),
-    Fill(1, 0, 7, 9, u64::MAX, 15),
-    Fill(1, 1, 7, 9, u64::MAX, 16),
+    (Fill(0, 0, 7, 9, u64::MAX), Some(14)),
+    (Fill(1, 0, 7, 9, u64::MAX), Some(15)),
+    (Fill(1, 1, 7, 9, u64::MAX), Some(16)),
 ];
 
-// The number with which a filling is turned down, 0 where it is not, and the table after it.
-fn filled(fill: &Fill) -> (u8, Table) {
-    let Fill(states, cues, length, byte, closing, _) = fill;
+// How a filling of a new table is answered, and the table after it.
+fn filled(fill: &Fill) -> (Result<(), FillRefusal>, Table) {
+    let Fill(states, cues, length, byte, closing) = fill;
     let bytes = [*byte; 2049];
     let mut table = Table::new();
-    let number = match table.fill(*states, *cues, &bytes[0..(*length).min(2049)], *closing) {
-        Ok(()) => 0,
-        Err(why) => why.number(),
-    };
-    (number, table)
+    let answer = table.fill(*states, *cues, &bytes[..(*length).min(2049)], *closing);
+    (answer, table)
 }
 
 #[test]
 fn tables_are_filled_or_turned_down(rt: HostRuntime) {
-    for fill in &FILLS {
-        let Fill(states, cues, _, _, _, refusal) = fill;
-        let (number, table) = filled(fill);
-        assert_eq!(rt; number, *refusal);
+    for (fill, refusal) in &FILLS {
+        let Fill(states, cues, ..) = fill;
+        let (answer, table) = filled(fill);
+        assert_eq!(rt; answer.err().map(FillRefusal::number), *refusal);
         // a table that is turned down stays new
-        let (states, cues) = if number == 0 {
-            (*states, *cues)
-        } else {
-            (1, 1)
+        let (states, cues) = match answer {
+            Ok(()) => (*states, *cues),
+            Err(_) => (1, 1),
         };
         assert_eq!(rt; table.states(), states);
         assert_eq!(rt; table.cues(), cues);
@@ -71,10 +70,8 @@ fn tables_are_filled_or_turned_down(rt: HostRuntime) {
 // Three states, two cues; shows may close at 0 and 2.
 fn small() -> Result<Table, Fail> {
     let mut table = Table::new();
-    match table.fill(3, 2, &[1, 2, 0, 2, 2, 1], 0b101) {
-        Ok(()) => Ok(table),
-        Err(_) => Err(Fail::new("the small table is right")),
-    }
+    table.fill(3, 2, &[1, 2, 0, 2, 2, 1], 0b101)?;
+    Ok(table)
 }
 
 // A position, a cue, and where the small table leads.
@@ -129,7 +126,7 @@ const SHOWS: [(&[u8], u64, bool); 6] = [
 #[test]
 fn shows_lead_to_positions(rt: HostRuntime) -> Result<(), Fail> {
     let table = small()?;
-    let nowhere = Table::new();
+    let nowhere = Table::default();
     for (show, position, allowed) in SHOWS {
         assert_eq!(rt; leads_to(&table, show), position);
         assert_eq!(rt; allows(&table, show), allowed);
@@ -151,36 +148,35 @@ fn what_is_no_cue_is_not_heard(rt: HostRuntime) -> Result<(), Fail> {
     Ok(())
 }
 
-fn answered(answer: Result<(), CueRefusal>) -> u8 {
-    match answer {
-        Ok(()) => 0,
-        Err(why) => why.number(),
-    }
+// The number of the refusal where a cue is turned down.
+fn refused(answer: Result<(), CueRefusal>) -> Option<u8> {
+    answer.err().map(CueRefusal::number)
 }
 
-// A new table's one cue, called many times, and then once more, and then what is no cue: the last two answers and the closed show.
-fn long_show(calls: u16) -> (u8, u8, Closed<Table>) {
+// A new table's one cue, called many times, and then once more, and then what is no cue: how the last two are turned down, and the
+// closed show.
+fn long_show(calls: u16) -> (Option<u8>, Option<u8>, Closed<Table>) {
     let (mut watch, slip) = Watch::begin(Table::new());
     for _ in 0..calls {
         let _ = watch.cue(0);
     }
-    let more = answered(watch.cue(0));
-    let stranger = answered(watch.cue(1));
+    let more = refused(watch.cue(0));
+    let stranger = refused(watch.cue(1));
     (more, stranger, watch.close(slip))
 }
 
 #[test]
 fn a_show_takes_ten_thousand_cues(rt: HostRuntime) {
-    for (calls, answer, taken) in [
-        (0, 0, 1),
-        (9_998, 0, 9_999),
-        (9_999, 0, 10_000),
-        (10_000, 22, 10_000),
-        (10_001, 22, 10_000),
+    for (calls, refusal, taken) in [
+        (0, None, 1),
+        (9_998, None, 9_999),
+        (9_999, None, 10_000),
+        (10_000, Some(22), 10_000),
+        (10_001, Some(22), 10_000),
     ] {
         let (more, stranger, closed) = long_show(calls);
-        assert_eq!(rt; more, answer);
-        assert_eq!(rt; stranger, 21);
+        assert_eq!(rt; more, refusal);
+        assert_eq!(rt; stranger, Some(21));
         assert_eq!(rt; closed.taken, taken);
         assert!(rt; !closed.allowed);
     }

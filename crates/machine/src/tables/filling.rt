@@ -77,6 +77,15 @@ impl Table {
     }
 }
 
+impl Default for Table {
+    ghost is_default = { λ table. Holds table blank };
+
+    /// A new table.
+    fn default() -> Table {
+        Table::new()
+    }
+}
+
 // What is wrong first with a description of a table, if anything.
 fn looked_over(states: u8, cues: u8, next: &[u8], closing: u64) -> Result<(), FillRefusal>
     ensures { LookedOver result (described states cues next.now closing) }
@@ -87,7 +96,7 @@ fn looked_over(states: u8, cues: u8, next: &[u8], closing: u64) -> Result<(), Fi
     if !(1..=MOST_CUES).contains(&cues) {
         return Err(FillRefusal::CueCount);
     }
-    if next.len() != states as usize * cues as usize {
+    if next.len() != usize::from(states) * usize::from(cues) {
         return Err(FillRefusal::Length);
     }
     if !all_below(next, states) || !bits_below(closing, states) {
@@ -117,6 +126,6 @@ fn padded(bytes: &[u8]) -> [u8; CELLS]
     ensures { result ≡ bytes.now ++ replicate (2048 - length bytes.now) 0 }
 {
     let mut all = [0; CELLS];
-    all[0..bytes.len()].copy_from_slice(bytes);
+    all[..bytes.len()].copy_from_slice(bytes);
     all
 }

@@ -19,13 +19,13 @@ impl Machine for Table {
     }
 
     fn next(&self, position: u64, cue: u8) -> u64 {
-        if position >= self.states as u64 || cue >= self.cues {
+        if position >= u64::from(self.states) || cue >= self.cues {
             return position;
         }
-        self.next[position as usize * self.cues as usize + cue as usize] as u64
+        u64::from(self.next[position as usize * usize::from(self.cues) + usize::from(cue)])
     }
 
     fn may_close(&self, position: u64) -> bool {
-        position < self.states as u64 && (self.closing >> position) % 2 == 1
+        position < u64::from(self.states) && (self.closing >> position) % 2 == 1
     }
 }

@@ -1,14 +1,12 @@
-use Rattle.std.proofs.Common.{refl, lit<, lit≤}
-use Rattle.machine.proofs.Bytes.{zeros_at}
+use Rattle.std.proofs.Common.{ℕ, zero, suc, ◌<◌, replicate, arith}
+use Rattle.std.specs.Prelude.{slice_index}
 use Rattle.machine.proofs.tables.Table.new.Goals as goal
 
-pub invariant_of-result : goal.invariant_of-result
-invariant_of-result c = record {
-  some_states = lit≤ tt;
-  few_states = lit≤ tt;
-  some_cues = lit≤ tt;
-  few_cues = lit≤ tt;
-  full_length = refl;
-  next_is_state = zeros_at 1 2048 (lit< tt);
-  closing_is_state = lit< tt;
-}
+-- Zeros name no state but 0, read past their end too.
+zeros_at : (n k : ℕ) → slice_index (replicate n 0) k < 1
+zeros_at zero k = omega arith
+zeros_at (suc n) zero = omega arith
+zeros_at (suc n) (suc k) = zeros_at n k
+
+pub invariant_of-result-clause-next_is_state : goal.invariant_of-result-clause-next_is_state
+invariant_of-result-clause-next_is_state c = zeros_at 2048

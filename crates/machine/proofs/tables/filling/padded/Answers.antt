@@ -1,5 +1,6 @@
-use Rattle.machine.proofs.Bytes.{over_zeros}
+use Rattle.std.proofs.Common.{ℕ}
+use Rattle.std.proofs.lemmas.List.{drop-replicate}
 use Rattle.machine.proofs.tables.filling.padded.Goals as goal
 
 pub returns : goal.returns
-returns c = over_zeros 2048 c.args.bytes.now c.copy_from_slice.new.self c.copy_from_slice.ensures.after
+returns c = rw (c.copy_from_slice.ensures.after, drop-replicate {X = ℕ})
