@@ -1,12 +1,9 @@
 -- What a client knows of calls on a bench opened new: all the grants that a verdict can need, and then the verdict, the
 -- tally and the show. Only the contracts of the calls are used.
 -- Assumes nothing.
-use Rattle.std.proofs.Common.{◌≡◌, ℕ, ◌≤◌, List, length, Result, IfOk, is_some, nat_le, ap, ◌∙◌, arith}
-use Rattle.std.proofs.lemmas.Bool.{cond_both, leb-true}
+use Rattle.std.proofs.Common.{◌≡◌, ℕ, List, ap, ◌∙◌, arith}
 use Rattle.machine.specs.Meaning.{Meaning}
-use Rattle.search.specs.declared.states.ShowRefusal.{ShowRefusal}
-use Rattle.search.specs.Search.{Search, found}
-use Rattle.search.specs.Calls.{Advance, Tally, AskVerdict, WriteShow, Worked, Tallied, Told, Written, Strategy, named_side, show_answer, buffer_after}
+use Rattle.search.specs.Calls.{Advance, Tally, AskVerdict, WriteShow, Worked, Tallied, Told, Written, Strategy}
 use Rattle.bench.specs.declared.benches.Bench.{Bench}
 use Rattle.bench.specs.Cells.{state_of}
 use Rattle.bench.specs.Bench.{Called, untouched, then_called, TellsTheTruth, StaysUnlike}
@@ -16,18 +13,6 @@ use Rattle.two_tables.specs.Comparing.{Compared, NotCompared}
 -- The only call before the others.
 abbrev grant_all : Strategy
 grant_all answers = Advance 2048
-
--- A show that is written fits its buffer.
-written_fits : (st : Search) (room : ℕ) → IfOk (show_answer st room) (λ n. n ≤ room)
-written_fits st room =
-    cond_both (is_some (named_side st.verdict)) _ _ (λ r. IfOk r (λ n. n ≤ room))
-    (λ _. cond_both (nat_le (length (found st)) room) _ _ (λ r. IfOk r (λ n. n ≤ room)) (leb-true _ _) (λ _. tt))
-    (λ _. tt)
-
-pub fits : (st : Search) (r : Result ℕ ShowRefusal) (before now' : List ℕ) → Written r now' ≡ Written (show_answer st (length before)) (buffer_after st before) → IfOk r (λ n. n ≤ length before)
-fits st r before now' answered =
-    let same : r ≡ show_answer st (length before) = cc in
-    rw same (written_fits st (length before))
 
 module _ {L R : Type 0} (lefts : L → Meaning) (rights : R → Meaning) (b next : Bench L R) (c : Comparison L R) (n : ℕ) (before now' : List ℕ)
     (first : Called lefts rights (Advance 2048) (Worked n) b next) (told : Called lefts rights AskVerdict (Told c.verdict) next next)
