@@ -1,18 +1,12 @@
 -- The example table allows a show exactly when before every FLY a LOAD stands earlier.
 -- Assumes nothing.
-use Rattle.std.proofs.Common.{◌≡◌, ℕ, zero, suc, ◌<◌, [], ◌∷◌, slice_index, ◌↔◌, IsTrue, refl, ap, ◌∙◌, arith, lit<}
+use Rattle.std.proofs.Common.{◌≡◌, ℕ, zero, suc, ◌<◌, [], ◌∷◌, slice_index, ◌↔◌, IsTrue, refl, inr, arith, lit<}
 use Rattle.std.proofs.lemmas.Bool.{false≢true}
+use Rattle.std.proofs.lemmas.List.Folds.{fold_stays}
 use Rattle.machine.specs.Show.{Show, Cued}
 use Rattle.machine.specs.Meaning.{Meaning, led_from, allowed}
 use Rattle.machine.specs.Table.{Means}
 use Rattle.examples.specs.Example.{load_first, LoadFirst}
-
--- What holds of each of the three cues.
-each_cue : (P : ℕ → Type 0) → P 0 → P 1 → P 2 → (c : ℕ) → c < 3 → P c
-each_cue P load hold fly zero h = load
-each_cue P load hold fly (suc zero) h = hold
-each_cue P load hold fly (suc (suc zero)) h = fly
-each_cue P load hold fly (suc (suc (suc c))) h = absurd (omega arith)
 
 -- Behind a LOAD every flight is in order; behind a HOLD those that were; and no show that begins with FLY.
 after_load : (s : Show) → LoadFirst (0 ∷ s)
@@ -34,24 +28,29 @@ not_fly : (s : Show) → LoadFirst (2 ∷ s) → ⊥
 not_fly s f = omega (arith, (f 0 (omega arith) refl).1)
 
 module _ (m : Meaning) (means : Means m load_first) where
-  -- A state that every cue keeps is kept by every show.
-  kept : (p : ℕ) → ((c : ℕ) → c < 3 → m.steps.next p c ≡ p) → (s : Show) → Cued 3 s → led_from m.steps p s ≡ p
-  kept p stays [] h = refl
-  kept p stays (c ∷ s) h = ap (λ q. led_from m.steps q s) (stays c h.0) ∙ kept p stays s h.1
+  -- A state that the three cues keep is kept by every show.
+  kept : (p : ℕ) → m.steps.next p 0 ≡ p → m.steps.next p 1 ≡ p → m.steps.next p 2 ≡ p → (s : Show) → led_from m.steps p s ≡ p
+  kept p load hold fly = fold_stays m.steps.next p stays
+    where
+      stays : (c : ℕ) → m.steps.next p c ≡ p
+      stays zero = load
+      stays (suc zero) = hold
+      stays (suc (suc zero)) = fly
+      stays (suc (suc (suc c))) = means.stays p _ (inr (omega arith))
 
-  loaded : (c : ℕ) → c < 3 → m.steps.next 1 c ≡ 1
-  loaded = each_cue (λ c. m.steps.next 1 c ≡ 1) (means.next 1 0 (lit< tt) (lit< tt)) (means.next 1 1 (lit< tt) (lit< tt)) (means.next 1 2 (lit< tt) (lit< tt))
+  loaded : (s : Show) → led_from m.steps 1 s ≡ 1
+  loaded = kept 1 (means.next 1 0 (lit< tt) (lit< tt)) (means.next 1 1 (lit< tt) (lit< tt)) (means.next 1 2 (lit< tt) (lit< tt))
 
-  early : (c : ℕ) → c < 3 → m.steps.next 2 c ≡ 2
-  early = each_cue (λ c. m.steps.next 2 c ≡ 2) (means.next 2 0 (lit< tt) (lit< tt)) (means.next 2 1 (lit< tt) (lit< tt)) (means.next 2 2 (lit< tt) (lit< tt))
+  early : (s : Show) → led_from m.steps 2 s ≡ 2
+  early = kept 2 (means.next 2 0 (lit< tt) (lit< tt)) (means.next 2 1 (lit< tt) (lit< tt)) (means.next 2 2 (lit< tt) (lit< tt))
 
   from_start : (s : Show) → Cued 3 s → IsTrue (m.closes (led_from m.steps 0 s)) ↔ LoadFirst s
   from_start [] h = (λ _ i lt. absurd (omega arith), λ _. means.closes 0 (lit< tt))
-  from_start (zero ∷ s) h = rw (means.next 0 0 (lit< tt) (lit< tt), kept 1 loaded s h.1, means.closes 1 (lit< tt)) (λ _. after_load s, λ _. refl)
+  from_start (zero ∷ s) h = rw (means.next 0 0 (lit< tt) (lit< tt), loaded s, means.closes 1 (lit< tt)) (λ _. after_load s, λ _. refl)
   from_start (suc zero ∷ s) h =
       let sofar = from_start s h.1 in
       rw (means.next 0 1 (lit< tt) (lit< tt)) (λ e. into_hold s (sofar.0 e), λ f. sofar.1 (out_of_hold s f))
-  from_start (suc (suc zero) ∷ s) h = rw (means.next 0 2 (lit< tt) (lit< tt), kept 2 early s h.1, means.closes 2 (lit< tt)) (λ e. absurd (false≢true e), λ f. absurd (not_fly s f))
+  from_start (suc (suc zero) ∷ s) h = rw (means.next 0 2 (lit< tt) (lit< tt), early s, means.closes 2 (lit< tt)) (λ e. absurd (false≢true e), λ f. absurd (not_fly s f))
   from_start (suc (suc (suc c)) ∷ s) h = absurd (omega (arith, h.0))
 
   pub load_first_lem : (s : Show) → Cued 3 s → IsTrue (allowed m s) ↔ LoadFirst s
