@@ -2,7 +2,7 @@
 
 #![tactic(auto)]
 
-ghost use Rattle.std.specs.Prelude.{◌≡◌, Decides};
+ghost use Rattle.std.specs.Prelude.{◌≡◌, ◌↔◌, IsTrue};
 ghost use Rattle.machine.specs.Show.{Show, Cued};
 ghost use Rattle.machine.specs.Meaning.{allowed};
 ghost use Rattle.machine.specs.Table.{described, Right, Means, table_meaning};
@@ -25,7 +25,8 @@ pub fn name(cue: u8) -> &'static str
 /// A flight only after its star field was loaded: before every FLY a LOAD stands earlier.
 pub fn flight() -> Table
     ensures table { Means (table_meaning result) load_first }
-    ensures rule { (s : Show) → Cued 3 s → Decides (allowed (table_meaning result) s) (LoadFirst s) }
+    ensures rule { (s : Show) → Cued 3 s →
+        (IsTrue (allowed (table_meaning result) s) ↔ LoadFirst s) }
 {
     filled(3, 3, &[1, 0, 2, 1, 1, 1, 2, 2, 2], 0b011)
 }
@@ -50,8 +51,6 @@ fn filled(states: u8, cues: u8, next: &[u8], closing: u64) -> Table
     ensures { Means (table_meaning result) (described states cues next.now closing) }
 {
     let mut table = Table::new();
-    match table.fill(states, cues, next, closing) {
-        Ok(()) => table,
-        Err(_) => unreachable(),
-    }
+    table.fill(states, cues, next, closing).unwrap();
+    table
 }

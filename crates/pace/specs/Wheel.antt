@@ -1,11 +1,11 @@
 -- Wheels: tables whose states stand in a round, and which some of their 32 cues turn.
 -- Assumes nothing.
-use Rattle.std.specs.Prelude.{◌≡◌, ℕ, ◌+◌, ◌-◌, ◌/◌, ◌%◌, ◌<◌, cond, List, length, nat_lt, slice_index}
+use Rattle.std.specs.Prelude.{◌≡◌, ℕ, ◌+◌, ◌-◌, ◌/◌, ◌%◌, ◌<◌, ◌&&◌, if◌then◌else◌, List, length, nat_lt, nat_le, slice_index}
 use Rattle.machine.specs.Meaning.{Meaning}
 
 -- By how many states a cue turns a wheel: the sixteen cues from the first on by one to sixteen, and the others not at all.
 abbrev pub turns : ℕ → ℕ → ℕ
-turns first c = cond (nat_lt c first) 0 (cond (nat_lt (c - first) 16) (c - first + 1) 0)
+turns first c = if nat_le first c && nat_lt (c - first) 16 then c - first + 1 else 0
 
 -- Where a cue leads from a state.
 abbrev pub turned : ℕ → ℕ → ℕ → ℕ → ℕ

@@ -3,13 +3,12 @@
 
 #![tactic(auto)]
 
-ghost use Rattle.std.specs.Prelude.{◌≡◌, ◌*◌, ◌/◌, ◌≤◌, max, IfOk};
+ghost use Rattle.std.specs.Prelude.{◌≡◌, ◌*◌, ◌/◌, ◌≤◌, max};
 ghost use Rattle.machine.specs.Table.{table_meaning};
 ghost use Rattle.pace.specs.Wheel.{turns, Laid, Wheel};
 
-use anyhow::anyhow;
 use bench::Bench;
-use machine::{Machine, Table};
+use machine::Table;
 use std::env;
 use std::time::Instant;
 
@@ -32,46 +31,35 @@ fn lay(next: &mut [u8], states: u8, first: u8)
     requires { 1 ≤ states }
     ensures { Laid states first next.new }
 {
-    for i in 0..next.len() {
+    for (i, cell) in next.iter_mut().enumerate() {
         let cue = (i % 32) as u8;
-        next[i] = ((i / 32 + turn(first, cue) as usize) % states as usize) as u8;
+        *cell = ((i / 32 + turn(first, cue) as usize) % states as usize) as u8;
     }
 }
 
-// A wheel of so many states, turned by sixteen cues from the given one on, laid in the bytes given.
-fn laid(next: &mut [u8], states: u8, first: u8) -> anyhow::Result<Table>
-    requires { 1 ≤ states }
-    ensures { IfOk result (λ t. Wheel states first (table_meaning t)) }
-{
-    lay(next, states, first);
-    let mut table = Table::new();
-    match table.fill(states, 32, next, 0) {
-        Ok(()) => Ok(table),
-        Err(_) => Err(anyhow!("the wheel is no table")),
-    }
-}
-
-// Such a wheel, in bytes of its own.
-fn wheel(states: u8, first: u8) -> anyhow::Result<Table>
+// A wheel of so many states, turned by sixteen cues from the given one on.
+fn wheel(states: u8, first: u8) -> Table
     requires { (1 ≤ states) × (states ≤ 64) }
-    ensures { IfOk result (λ t. Wheel states first (table_meaning t)) }
+    ensures { Wheel states first (table_meaning result) }
 {
     let mut next = [0; 2048];
-    laid(&mut next[0..states as usize * 32], states, first)
+    let next = &mut next[0..states as usize * 32];
+    lay(next, states, first);
+    let mut table = Table::new();
+    table.fill(states, 32, next, 0).unwrap();
+    table
 }
 
 // Compares a wheel of 64 states with one of 32 that turns by the other cues, and answers how many joint positions it worked.
-fn compare() -> anyhow::Result<u16> {
-    let mut bench = Bench::open(wheel(64, 0)?, wheel(32, 16)?);
-    Ok(bench.advance(2048))
+fn compare() -> u16 {
+    let mut bench = Bench::open(wheel(64, 0), wheel(32, 16));
+    bench.advance(2048)
 }
 
 // The argument, or few.
 fn times(rt: &HostRuntime) -> anyhow::Result<u32> {
-    let mut words = env::args(rt)?;
-    let _ = words.next();
-    match words.next() {
-        Some(word) => Ok(word.as_str().parse::<u32>()?),
+    match env::args(rt)?.nth(1) {
+        Some(word) => Ok(word.as_str().parse()?),
         None => Ok(FEW),
     }
 }
@@ -88,7 +76,7 @@ fn run(rt: &HostRuntime) -> anyhow::Result<()> {
     let start = Instant::now(rt)?;
     let mut worked: u64 = 0;
     for _ in 0..times {
-        worked = worked.saturating_add(u64::from(compare()?));
+        worked = worked.saturating_add(u64::from(compare()));
     }
     let pace = a_second(worked, start.elapsed(rt)?.as_micros());
     println!(rt; "{times} comparisons, {worked} joint positions worked")?;

@@ -1,3 +1,1 @@
-pub mod LoadFirst
-pub mod Digits
 pub mod OnlyCued

@@ -1,3 +1,1 @@
-pub mod Example
-pub mod Decimal
 pub mod Playing

@@ -2,76 +2,71 @@
 
 #![tactic(auto)]
 
-ghost use Rattle.std.specs.Prelude.{◌≡◌, min, Decides, MatchOption};
-ghost use Rattle.machine.specs.Show.{Show, Cued};
-ghost use Rattle.machine.specs.Meaning.{allowed};
+ghost use Rattle.std.specs.Prelude.{◌≡◌, ◌↔◌, min, IsTrue, MatchOption, Some};
+ghost use Rattle.std.specs.Str.Parse.{IsNumeral, digits_value};
 ghost use Rattle.machine.specs.Table.{Means, table_meaning};
 ghost use Rattle.machine.specs.Watch.{standing, after_cue};
-ghost use Rattle.play.specs.Decimal.{Decimal, read_on};
-ghost use Rattle.play.specs.Example.{example, LoadFirst, cue_name};
-ghost use Rattle.play.specs.Playing.{Told, OnlyCued};
+ghost use Rattle.examples.specs.Example.{load_first};
+ghost use Rattle.play.specs.Playing.{FliesAfterLoad, Told, OnlyCued, stand_text};
 
-use machine::{CueRefusal, Machine, Table, Watch};
+use examples::{flight, name};
+use machine::{CueRefusal, Machine, Slip, Table, Watch};
+use std::fmt;
 
-/// What a cue number did: the cue was taken, and the show stands at a position where it may close or not; or it was turned down.
-pub enum Step {
-    Taken(u64, bool),
-    Refused(CueRefusal),
+// Where a show stands: the position reached, and whether the show may close there.
+#[derive(Drop)]
+struct Stand {
+    position: u64,
+    may_close: bool,
 }
 
-// The example: three cues, LOAD, HOLD and FLY, and FLY only after LOAD.
-fn flight() -> Table
-    ensures table { Means (table_meaning result) example }
-    ensures rule { (s : Show) → Cued 3 s → Decides (allowed (table_meaning result) s) (LoadFirst s) }
-{
-    let mut table = Table::new();
-    match table.fill(3, 3, &[1, 0, 2, 1, 1, 1, 2, 2, 2], 0b011) {
-        Ok(()) => table,
-        Err(_) => unreachable(),
+impl fmt::Display for Stand {
+    ghost output = { λ stand. Some (stand_text stand) };
+
+    fn fmt<W: fmt::Write>(&self, f: &mut fmt::Formatter<W>) -> fmt::Result {
+        let position = self.position;
+        let may = if self.may_close { "may" } else { "may not" };
+        write!(f, "position {position}, {may} close")
     }
 }
 
-// The name of a cue of the example.
-fn name(cue: u8) -> &'static str
-    ensures { result.now ≡ cue_name cue }
+// Begins a show over the example in which FLY comes only after LOAD.
+fn begin() -> (Watch<Table>, Slip)
+    ensures table { Means (table_meaning (standing result.0).machine) load_first }
+    ensures rule { FliesAfterLoad result.0 }
 {
-    match cue {
-        0 => "LOAD",
-        1 => "HOLD",
-        2 => "FLY",
-        _ => "?",
-    }
+    Watch::begin(flight())
+}
+
+// Whether a line is one or more decimal digits.
+fn is_numeral(line: &str) -> bool
+    ensures { IsTrue result ↔ IsNumeral 10 line.now }
+{
+    !line.is_empty() && line.as_bytes().iter().all(|b| b.is_ascii_digit())
 }
 
 // The decimal number on a line. One above 255 is read as 255, since neither is a cue of any machine.
-fn number(line: &[u8]) -> Option<u8>
-    ensures { MatchOption result (Decimal line.now → ⊥) (λ n. Decimal line.now × (n ≡ min 255 (read_on 0 line.now))) }
+fn number(line: &str) -> Option<u8>
+    ensures { MatchOption result (¬ (IsNumeral 10 line.now))
+        (λ n. IsNumeral 10 line.now × (n ≡ min 255 (digits_value 10 line.now))) }
 {
-    if line.is_empty() {
+    if !is_numeral(line) {
         return None;
     }
-    let mut n: u8 = 0;
-    for b in line {
-        if *b < b'0' || *b > b'9' {
-            return None;
-        }
-        n = n.saturating_mul(10).saturating_add(*b - b'0');
-    }
-    Some(n)
+    Some(u8::from_str_radix(line, 10).unwrap_or(u8::MAX))
 }
 
 // Calls the cue, and says what it did.
-fn take(watch: &mut Watch<Table>, cue: u8) -> Step
+fn take(watch: &mut Watch<Table>, cue: u8) -> Result<Stand, CueRefusal>
     ensures told { Told result watch.old watch.new cue }
     ensures after { standing watch.new ≡ after_cue table_meaning (standing watch.old) cue }
 {
-    match watch.cue(cue) {
-        Ok(()) => {
-            let position = watch.start();
-            Step::Taken(position, watch.may_close(position))
-        }
-        Err(why) => Step::Refused(why),
-    }
+    watch.cue(cue)?;
+    let position = watch.start();
+    Ok(Stand {
+        position,
+        may_close: watch.may_close(position),
+    })
 }
 
 // Plays each line that is a number, and tells what it did.
@@ -80,7 +75,7 @@ fn play(rt: &HostRuntime, watch: &mut Watch<Table>) -> anyhow::Result<()>
 {
     for line in rt.lines(rt.alloc()) {
         let line = line?;
-        match number(line.as_bytes()) {
+        match number(line.as_str()) {
             Some(cue) => tell(rt, line.as_str(), cue, take(watch, cue))?,
             None => println!(rt; "not a number: {line:?}")?,
         }
@@ -89,16 +84,20 @@ fn play(rt: &HostRuntime, watch: &mut Watch<Table>) -> anyhow::Result<()>
 }
 
 // Prints what a cue number did.
-fn tell(rt: &HostRuntime, line: &str, cue: u8, step: Step) -> anyhow::Result<()> {
-    match step {
-        Step::Taken(position, closes) => {
+fn tell(
+    rt: &HostRuntime,
+    line: &str,
+    cue: u8,
+    answer: Result<Stand, CueRefusal>,
+) -> anyhow::Result<()> {
+    match answer {
+        Ok(stand) => {
             let cue_name = name(cue);
-            let may = if closes { "may" } else { "may not" };
-            println!(rt; "{cue} {cue_name}: position {position}, {may} close")?;
+            println!(rt; "{cue} {cue_name}: {stand}")?;
         }
-        Step::Refused(why) => {
-            let refusal = why.number();
-            println!(rt; "{line}: refused {refusal}")?;
+        Err(refusal) => {
+            let number = refusal.number();
+            println!(rt; "{line}: refused {number}")?;
         }
     }
     Ok(())
@@ -106,7 +105,7 @@ fn tell(rt: &HostRuntime, line: &str, cue: u8, step: Step) -> anyhow::Result<()>
 
 // Begins a show over the example, plays it, and closes it with its slip, whether or not all of it could be read and told.
 fn run(rt: &HostRuntime) -> anyhow::Result<()> {
-    let (mut watch, slip) = Watch::begin(flight());
+    let (mut watch, slip) = begin();
     let played = play(rt, &mut watch);
     let closed = watch.close(slip);
     played?;

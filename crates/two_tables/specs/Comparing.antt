@@ -1,12 +1,11 @@
 -- What a comparison on a bench promises.
 -- Assumes nothing.
-use Rattle.std.specs.Prelude.{◌≡◌, ℕ, List, Err, codes}
+use Rattle.std.specs.Prelude.{◌≡◌, ℕ, List, ◌++◌, Err, codes, decimal}
 use Rattle.machine.specs.Meaning.{Meaning}
-use Rattle.search.specs.declared.states.Verdict.{Verdict}
-use Rattle.search.specs.declared.states.Verdict.TheVariants.{Open, Equal, Left, Right, Full, Unlike}
+use Rattle.search.specs.declared.states.Verdict.TheVariants.{Unlike}
 use Rattle.search.specs.declared.states.ShowRefusal.TheVariants.{NoShow}
 use Rattle.search.specs.Search.{recorded, after}
-use Rattle.search.specs.Calls.{Written}
+use Rattle.search.specs.Calls.{Written, verdict_word}
 use Rattle.search.specs.Truth.{TrueVerdict}
 use Rattle.search.specs.Runs.{ShowTold}
 use Rattle.two_tables.specs.declared.Comparison.{Comparison}
@@ -27,11 +26,6 @@ pub record NotCompared {L R : Type 0} (c : Comparison L R) (before now' : List �
   pub show : c.length ≡ Err NoShow
   pub buffer : now' ≡ before
 
--- The word that is printed for a verdict.
-abbrev pub verdict_word : Verdict → List ℕ
-verdict_word Open = codes "open"
-verdict_word Equal = codes "equal"
-verdict_word Left = codes "left"
-verdict_word Right = codes "right"
-verdict_word Full = codes "full"
-verdict_word Unlike = codes "unlike"
+-- A comparison as it is printed: the verdict, and how many joint positions were worked and recorded.
+abbrev pub outcome_text : {L R : Type 0} → Comparison L R → List ℕ
+outcome_text c = verdict_word c.verdict ++ codes " " ++ decimal c.worked ++ codes " " ++ decimal c.recorded
