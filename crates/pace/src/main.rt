@@ -10,6 +10,7 @@ ghost use Rattle.pace.specs.Wheel.{turns, Laid, Wheel};
 use bench::Bench;
 use machine::Table;
 use std::env;
+use std::rt::{Clock, Env};
 use std::time::Instant;
 
 // How many comparisons are made when no number is given.
@@ -57,7 +58,7 @@ fn compare() -> u16 {
 }
 
 // The argument, or few.
-fn times(rt: &HostRuntime) -> anyhow::Result<u32> {
+fn times(rt: &(impl Env + Alloc)) -> anyhow::Result<u32> {
     match env::args(rt)?.nth(1) {
         Some(word) => Ok(word.as_str().parse()?),
         None => Ok(FEW),
@@ -71,7 +72,7 @@ fn a_second(worked: u64, micros: u128) -> u128
     u128::from(worked) * 1_000_000 / micros.max(1)
 }
 
-fn run(rt: &HostRuntime) -> anyhow::Result<()> {
+fn run(rt: &(impl Env + Alloc + Clock + Print + Eprint)) -> anyhow::Result<()> {
     let times = times(rt)?;
     let start = Instant::now(rt)?;
     let mut worked: u64 = 0;

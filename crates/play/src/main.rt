@@ -70,7 +70,7 @@ fn take(watch: &mut Watch<Table>, cue: u8) -> Result<Stand, CueRefusal>
 }
 
 // Plays each line that is a number, and tells what it did.
-fn play(rt: &HostRuntime, watch: &mut Watch<Table>) -> anyhow::Result<()>
+fn play(rt: &(impl Input + Alloc + Print), watch: &mut Watch<Table>) -> anyhow::Result<()>
     ensures { OnlyCued watch.old watch.new }
 {
     for line in rt.lines(rt.alloc()) {
@@ -85,7 +85,7 @@ fn play(rt: &HostRuntime, watch: &mut Watch<Table>) -> anyhow::Result<()>
 
 // Prints what a cue number did.
 fn tell(
-    rt: &HostRuntime,
+    rt: &impl Print,
     line: &str,
     cue: u8,
     answer: Result<Stand, CueRefusal>,
@@ -104,7 +104,7 @@ fn tell(
 }
 
 // Begins a show over the example, plays it, and closes it with its slip, whether or not all of it could be read and told.
-fn run(rt: &HostRuntime) -> anyhow::Result<()> {
+fn run(rt: &(impl Input + Alloc + Print)) -> anyhow::Result<()> {
     let (mut watch, slip) = begin();
     let played = play(rt, &mut watch);
     let closed = watch.close(slip);

@@ -5,7 +5,6 @@ use Rattle.std.proofs.Common.{◌≡◌, ℕ, List, ap, ◌∙◌, arith}
 use Rattle.machine.specs.Meaning.{Meaning}
 use Rattle.search.specs.Calls.{Advance, Tally, AskVerdict, WriteShow, Worked, Tallied, Told, Written, Strategy}
 use Rattle.bench.specs.declared.benches.Bench.{Bench}
-use Rattle.bench.specs.Cells.{state_of}
 use Rattle.bench.specs.Bench.{Called, untouched, then_called, TellsTheTruth, StaysUnlike}
 use Rattle.two_tables.specs.declared.Comparison.{Comparison}
 use Rattle.two_tables.specs.Comparing.{Compared, NotCompared}
@@ -30,7 +29,7 @@ module _ {L R : Type 0} (lefts : L → Meaning) (rights : R → Meaning) (b next
       let (v, same, when) = here.truly AskVerdict (Told c.verdict) next told in
       let counts = here.truly Tally (Tallied c.worked c.recorded) next tallied in
       let true_one : c.verdict ≡ v = cc in
-      let told_here : c.verdict ≡ (state_of next.cells).verdict = cc told.answered in
+      let told_here : c.verdict ≡ next.state.verdict = cc told.answered in
       record {
         verdict = rw true_one (when.enough (omega arith));
         worked = cc;

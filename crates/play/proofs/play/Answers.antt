@@ -5,10 +5,10 @@ use Rattle.play.proofs.play.Goals as goal
 use Rattle.play.proofs.play.Goals.{in-Some-number+in_ok-tell-in-Some-number, in-None-number+in_ok-println-in-None-number}
 
 pub returns-in_err-tell-in-Some-number : goal.returns-in_err-tell-in-Some-number
-returns-in_err-tell-in-Some-number c = cued_more c.args.watch.now c.loop-line.watch c.take.new.watch _ c.loop-line.invariant.2 c.take.ensures.after
+returns-in_err-tell-in-Some-number g c = cued_more c.args.watch.now c.loop-line.watch c.take.new.watch _ c.loop-line.invariant.2 c.take.ensures.after
 
 pub loop-line-preserved : goal.loop-line-preserved
-loop-line-preserved c =
+loop-line-preserved g c =
     let sofar = c.loop-line.invariant.2 in (
       tt,
       tt,
