@@ -4,11 +4,13 @@
 #![tactic(auto)]
 
 mod machines;
+mod numbers;
 mod shows;
 mod tables;
 mod watches;
 
 pub use machines::{Machine, allows, divides, leads_to};
+pub use numbers::Numbered;
 pub use shows::show_order;
 pub use tables::{FillRefusal, Table};
 pub use watches::{Closed, CueRefusal, Slip, Watch};

@@ -1,7 +1,8 @@
 //! Tables at their limits, watches at the longest show, and shows in order.
 use super::rehearse;
 use machine::{
-    Closed, CueRefusal, FillRefusal, Machine, Table, Watch, allows, divides, leads_to, show_order,
+    Closed, CueRefusal, FillRefusal, Machine, Numbered, Table, Watch, allows, divides, leads_to,
+    show_order,
 };
 use std::cmp::Ordering;
 use std::test::Fail;

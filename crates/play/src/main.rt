@@ -10,7 +10,7 @@ ghost use Rattle.examples.specs.Example.{load_first};
 ghost use Rattle.play.specs.Playing.{FliesAfterLoad, Told, OnlyCued, stand_text};
 
 use examples::{flight, name};
-use machine::{CueRefusal, Machine, Slip, Table, Watch};
+use machine::{CueRefusal, Machine, Numbered, Slip, Table, Watch};
 use std::fmt;
 
 // Where a show stands: the position reached, and whether the show may close there.

@@ -2,8 +2,10 @@
 ghost use Rattle.std.specs.Prelude.{◌≡◌, ◌-◌, ◌^◌, ◌<◌, ◌≤◌, ◌↔◌, ◌++◌, Some, length, replicate, IsTrue};
 ghost use Rattle.machine.specs.Show.{AllBelow};
 ghost use Rattle.machine.specs.Table.{described, description_of, LookedOver, Filled, Holds, fill_number, fill_words, blank};
+ghost use Rattle.std.proofs.Common.{rules};
 
 use super::{CELLS, FillRefusal, Table};
+use crate::numbers::Numbered;
 use std::error::Error;
 use std::fmt;
 
@@ -11,11 +13,12 @@ const MOST_STATES: u8 = 64;
 
 const MOST_CUES: u8 = 32;
 
-impl FillRefusal {
-    /// The published number of the refusal.
-    pub fn number(self) -> u8
-        ensures { result ≡ fill_number self }
-    {
+impl Numbered for FillRefusal {
+    ghost number = { fill_number };
+
+    ghost told_apart = { Prim.search rules };
+
+    fn number(self) -> u8 {
         self as u8
     }
 }

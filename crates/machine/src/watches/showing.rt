@@ -1,19 +1,22 @@
 //! Beginning, cueing and closing a show.
 ghost use Rattle.std.specs.Prelude.{◌≡◌, Some};
 ghost use Rattle.machine.specs.Watch.{standing, IsSpent, begun, cue_answer, after_cue, closed, cue_number, cue_words, WholeShow};
+ghost use Rattle.std.proofs.Common.{rules};
 
 use super::{Closed, CueRefusal, Slip, Watch};
 use crate::machines::Machine;
+use crate::numbers::Numbered;
 use std::error::Error;
 use std::fmt;
 
 const LONGEST: u16 = 10_000;
 
-impl CueRefusal {
-    /// The published number of the refusal.
-    pub fn number(self) -> u8
-        ensures { result ≡ cue_number self }
-    {
+impl Numbered for CueRefusal {
+    ghost number = { cue_number };
+
+    ghost told_apart = { Prim.search rules };
+
+    fn number(self) -> u8 {
         self as u8
     }
 }
