@@ -127,7 +127,7 @@ const SHOWS: [(&[u8], u64, bool); 6] = [
 #[test]
 fn shows_lead_to_positions(rt: HostRuntime) -> Result<(), Fail> {
     let table = small()?;
-    let nowhere = Table::default();
+    let nowhere = Table::new();
     for (show, position, allowed) in SHOWS {
         assert_eq!(rt; leads_to(&table, show), position);
         assert_eq!(rt; allows(&table, show), allowed);
