@@ -7,6 +7,7 @@ use machine::Machine;
 /// A counter: its one cue counts up to the largest position, and a show may close at one count alone.
 #[derive(Drop)]
 pub struct Counter {
+    /// The count at which a show may close.
     pub closing: u64,
 }
 

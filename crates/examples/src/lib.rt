@@ -50,7 +50,5 @@ fn filled(states: u8, cues: u8, next: &[u8], closing: u64) -> Table
     requires { Right (described states cues next.now closing) }
     ensures { Means (table_meaning result) (described states cues next.now closing) }
 {
-    let mut table = Table::new();
-    table.fill(states, cues, next, closing).unwrap();
-    table
+    Table::filled(states, cues, next, closing).unwrap()
 }

@@ -1,3 +1,3 @@
 pub mod Order
-pub mod Leading
+pub mod Alike
 pub mod Showing

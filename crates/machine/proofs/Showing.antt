@@ -3,7 +3,7 @@
 use Rattle.std.proofs.Common.{◌≡◌, ℕ, zero, suc, ◌+◌, ◌≤◌, nat_lt, List, [], ◌∷◌, ◌++◌, length, take, Ok, filter, sym, refl, ap, ◌∙◌, arith, take_all}
 use Rattle.std.specs.List.{AllByRecursion}
 use Rattle.std.proofs.lemmas.Bool.Decides.{nat_tests}
-use Rattle.machine.proofs.Leading.{led_append}
+use Rattle.std.proofs.lemmas.List.Sums.{fold-append}
 use Rattle.machine.specs.Show.{Show, Cued}
 use Rattle.machine.specs.Meaning.{Meaning, led_from, leads_to, allowed}
 use Rattle.machine.specs.declared.watches.Watch.{Watch}
@@ -43,7 +43,7 @@ module _ {M : Type 0} (meaning : M → Meaning) (x : M) where
   ahead : (calls : List ℕ) (w : Watch M) → standing w ≡ after_cues meaning (begun meaning x) calls → (rest : Show) → allowed (watch_meaning meaning w) rest ≡ allowed (meaning x) (heard count calls ++ rest)
   ahead calls w e rest =
       ap (λ v. (meaning v.machine).closes (led_from (meaning v.machine).steps v.position rest)) (e ∙ stands calls)
-      ∙ ap (meaning x).closes (sym (led_append (meaning x).steps (meaning x).steps.start (heard count calls) rest))
+      ∙ ap (meaning x).closes (sym (fold-append (meaning x).steps.next (meaning x).steps.start (heard count calls) rest))
 
   pub whole_show : WholeShow meaning x
   whole_show = record {

@@ -1,6 +1,6 @@
 -- What a machine means, and what its meaning says of shows.
 -- Assumes nothing.
-use Rattle.std.specs.Prelude.{◌≡◌, ℕ, ◌^◌, ◌<◌, ◌≤◌, Bool, true, ◌⊎◌, fold}
+use Rattle.std.specs.Prelude.{◌≡◌, ℕ, ◌^◌, ◌<◌, ◌≤◌, Bool, ◌⊎◌, fold, IsTrue}
 use Rattle.machine.specs.Show.{Show}
 
 -- The stepping half: the cue count, the start position, and the next position for every position and cue.
@@ -27,7 +27,7 @@ abbrev pub allowed : Meaning → Show → Bool
 allowed m s = m.closes (leads_to m s)
 
 abbrev pub Allows : Meaning → Show → Type 0
-Allows m s = allowed m s ≡ true
+Allows m s = IsTrue (allowed m s)
 
 -- A show divides (distinguishes) two machines when exactly one of them allows it.
 abbrev pub Divides : Meaning → Meaning → Show → Type 0

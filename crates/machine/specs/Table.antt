@@ -104,6 +104,10 @@ LookedOver r d = MatchResult r (λ _. Right d) (λ e. TurnedDown e d)
 abbrev pub Filled : Result Unit FillRefusal → Description → Table → Table → Type 0
 Filled r d before after = MatchResult r (λ _. Right d × Holds after d × Means (table_meaning after) d) (λ e. TurnedDown e d × (after ≡ before))
 
+-- Making a table: it holds and means a right description; one that is turned down makes none.
+abbrev pub Made : Result Table FillRefusal → Description → Type 0
+Made r d = MatchResult r (λ t. Right d × Holds t d × Means (table_meaning t) d) (λ e. TurnedDown e d)
+
 -- A new table: one state and one cue, closing nowhere.
 abbrev pub blank : Description
 blank = described 1 1 (0 ∷ []) 0

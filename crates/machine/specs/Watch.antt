@@ -43,7 +43,7 @@ heard count calls = take longest (filter (λ c. nat_lt c count) calls)
 
 -- A machine started at another position.
 abbrev pub started_at : Meaning → ℕ → Meaning
-started_at m p = record { steps = record { cues = m.steps.cues; start = p; next = m.steps.next }; closes = m.closes }
+started_at m p = record m { steps = record m.steps { start = p } }
 
 -- What the calls do, for machines of any type, whose meaning is given.
 module _ {M : Type 0} (meaning : M → Meaning) where
@@ -64,7 +64,7 @@ module _ {M : Type 0} (meaning : M → Meaning) where
 
   -- A cue that is taken moves the watch; one that is turned down changes nothing.
   abbrev pub moved : Result Unit CueRefusal → Standing M → ℕ → Standing M
-  moved (Ok _) w c = record { machine = w.machine; position = (meaning w.machine).steps.next w.position c; taken = w.taken + 1 }
+  moved (Ok _) w c = record w { position = (meaning w.machine).steps.next w.position c; taken = w.taken + 1 }
   moved (Err e) w c = w
 
   abbrev pub after_cue : Standing M → ℕ → Standing M

@@ -23,7 +23,7 @@ pub struct Table {
     ghost closing_is_state: { closing < 2 ^ states },
 }
 
-/// Why a table is not filled. The discriminants are the published numbers.
+/// Why a table is not filled. A refusal's published number is that of its case.
 #[derive(Clone, Copy, Debug, PartialEq, Eq, Hash)]
 pub enum FillRefusal {
     /// The state count is not 1 to 64.

@@ -49,7 +49,7 @@ impl Slip {
     }
 }
 
-/// Why a cue is turned down. The discriminants are the published numbers.
+/// Why a cue is turned down. A refusal's published number is that of its case.
 #[derive(Clone, Copy, Debug, PartialEq, Eq, Hash)]
 pub enum CueRefusal {
     /// The number is not below the cue count.

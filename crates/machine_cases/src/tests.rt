@@ -69,10 +69,8 @@ fn tables_are_filled_or_turned_down(rt: HostRuntime) {
 }
 
 // Three states, two cues; shows may close at 0 and 2.
-fn small() -> Result<Table, Fail> {
-    let mut table = Table::new();
-    table.fill(3, 2, &[1, 2, 0, 2, 2, 1], 0b101)?;
-    Ok(table)
+fn small() -> Result<Table, FillRefusal> {
+    Table::filled(3, 2, &[1, 2, 0, 2, 2, 1], 0b101)
 }
 
 // A position, a cue, and where the small table leads.

@@ -46,9 +46,7 @@ fn wheel(states: u8, first: u8) -> Table
     let mut next = [0; 2048];
     let next = &mut next[0..states as usize * 32];
     lay(next, states, first);
-    let mut table = Table::new();
-    table.fill(states, 32, next, 0).unwrap();
-    table
+    Table::filled(states, 32, next, 0).unwrap()
 }
 
 // Compares a wheel of 64 states with one of 32 that turns by the other cues, and answers how many joint positions it worked.

@@ -1,7 +1,7 @@
 //! Making and filling a table.
 ghost use Rattle.std.specs.Prelude.{◌≡◌, ◌-◌, ◌^◌, ◌<◌, ◌≤◌, ◌↔◌, ◌++◌, Some, length, replicate, IsTrue};
 ghost use Rattle.machine.specs.Show.{AllBelow};
-ghost use Rattle.machine.specs.Table.{described, description_of, LookedOver, Filled, Holds, fill_number, fill_words, blank};
+ghost use Rattle.machine.specs.Table.{described, description_of, LookedOver, Filled, Made, Holds, fill_number, fill_words, blank};
 ghost use Rattle.std.proofs.Common.{rules};
 
 use super::{CELLS, FillRefusal, Table};
@@ -70,6 +70,15 @@ impl Table {
             closing,
         };
         Ok(())
+    }
+
+    /// A table filled so, or why it is not.
+    pub fn filled(states: u8, cues: u8, next: &[u8], closing: u64) -> Result<Table, FillRefusal>
+        ensures { Made result (described states cues next.now closing) }
+    {
+        let mut table = Table::new();
+        table.fill(states, cues, next, closing)?;
+        Ok(table)
     }
 
     /// How many states the table has.
