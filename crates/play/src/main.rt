@@ -5,7 +5,7 @@
 ghost use Rattle.std.specs.Prelude.{◌≡◌, ◌↔◌, min, IsTrue, MatchOption, Some};
 ghost use Rattle.std.specs.Str.Parse.{IsNumeral, digits_value};
 ghost use Rattle.machine.specs.Table.{Means, table_meaning};
-ghost use Rattle.machine.specs.Watch.{standing, after_cue};
+ghost use Rattle.machine.specs.Watch.{standing, after_cue, IsSpent};
 ghost use Rattle.examples.specs.Example.{load_first};
 ghost use Rattle.play.specs.Playing.{FliesAfterLoad, Told, OnlyCued, stand_text};
 
@@ -34,6 +34,8 @@ impl fmt::Display for Stand {
 fn begin() -> (Watch<Table>, Slip)
     ensures table { Means (table_meaning (standing result.0).machine) load_first }
     ensures rule { FliesAfterLoad result.0 }
+    ensures begun { ((standing result.0).position ≡ 0) × ((standing result.0).taken ≡ 0) }
+    ensures unspent { ¬ IsSpent result.1 }
 {
     Watch::begin(flight())
 }

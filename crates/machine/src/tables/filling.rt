@@ -72,7 +72,7 @@ impl Table {
         Ok(())
     }
 
-    /// A table filled so, or why it is not.
+    /// Makes a table and fills it so, or answers why not.
     pub fn filled(states: u8, cues: u8, next: &[u8], closing: u64) -> Result<Table, FillRefusal>
         ensures { Made result (described states cues next.now closing) }
     {
