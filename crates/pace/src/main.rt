@@ -5,9 +5,9 @@
 
 ghost use Rattle.std.specs.Prelude.{◌≡◌, ◌*◌, ◌/◌, ◌≤◌, max};
 ghost use Rattle.machine.specs.Table.{table_meaning};
-ghost use Rattle.pace.specs.Wheel.{turns, Laid, Wheel};
+ghost use Rattle.pace.specs.Wheel.{turns, Laid, Wheel, Load};
 
-use bench::Bench;
+use bench::{Bench, LIMIT};
 use machine::Table;
 use std::env;
 use std::rt::{Clock, Env};
@@ -50,9 +50,11 @@ fn wheel(states: u8, first: u8) -> Table
 }
 
 // Compares a wheel of 64 states with one of 32 that turns by the other cues, and answers how many joint positions it worked.
-fn compare() -> u16 {
+fn compare() -> u16
+    ensures { Load result }
+{
     let mut bench = Bench::open(wheel(64, 0), wheel(32, 16));
-    bench.advance(2048)
+    bench.advance(LIMIT)
 }
 
 // The argument, or few.

@@ -5,16 +5,17 @@ use Rattle.std.proofs.Common.{◌≡◌, ℕ, List, ap, ◌∙◌, arith}
 use Rattle.machine.specs.Meaning.{Meaning}
 use Rattle.search.specs.Calls.{Advance, Tally, AskVerdict, WriteShow, Worked, Tallied, Told, Written, Strategy}
 use Rattle.bench.specs.declared.benches.Bench.{Bench}
+use Rattle.bench.specs.Cells.{limit}
 use Rattle.bench.specs.Bench.{Called, untouched, then_called, TellsTheTruth, StaysUnlike}
 use Rattle.two_tables.specs.declared.Comparison.{Comparison}
 use Rattle.two_tables.specs.Comparing.{Compared, NotCompared}
 
 -- The only call before the others.
 abbrev grant_all : Strategy
-grant_all answers = Advance 2048
+grant_all answers = Advance limit
 
 module _ {L R : Type 0} (lefts : L → Meaning) (rights : R → Meaning) (b next : Bench L R) (c : Comparison L R) (n : ℕ) (before now' : List ℕ)
-    (first : Called lefts rights (Advance 2048) (Worked n) b next) (told : Called lefts rights AskVerdict (Told c.verdict) next next)
+    (first : Called lefts rights (Advance limit) (Worked n) b next) (told : Called lefts rights AskVerdict (Told c.verdict) next next)
     (tallied : Called lefts rights Tally (Tallied c.worked c.recorded) next next)
     (shown : Called lefts rights (WriteShow before) (Written c.length now') next next) where
   abbrev l : Meaning

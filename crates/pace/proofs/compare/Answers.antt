@@ -1,0 +1,14 @@
+use Rattle.machine.specs.Table.{table_meaning}
+use Rattle.bench.specs.Cells.{limit}
+use Rattle.pace.proofs.Loaded.{first_grant}
+use Rattle.pace.proofs.compare.Goals as goal
+
+pub returns : goal.returns
+returns c = (
+  table_meaning c.wheel.result,
+  table_meaning c.wheel-2.result,
+  c.wheel.ensures,
+  c.wheel-2.ensures,
+  first_grant table_meaning table_meaning c.wheel.result c.wheel-2.result c.open-bench.result c.advance.new.self limit c.advance.result
+      c.open-bench.ensures.machines c.open-bench.ensures.state c.advance.ensures.called,
+)
