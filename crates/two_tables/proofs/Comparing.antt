@@ -1,8 +1,9 @@
 -- What a client knows of calls on a bench opened new: all the grants that a verdict can need, and then the verdict, the
 -- tally and the show. Only the contracts of the calls are used.
 -- Assumes nothing.
-use Rattle.std.proofs.Common.{◌≡◌, ℕ, List, ap, ◌∙◌, arith}
+use Rattle.std.proofs.Common.{◌≡◌, ℕ, List, arith}
 use Rattle.machine.specs.Meaning.{Meaning}
+use Rattle.search.specs.Search.{after}
 use Rattle.search.specs.Calls.{Advance, Tally, AskVerdict, WriteShow, Worked, Tallied, Told, Written, Strategy}
 use Rattle.bench.specs.declared.benches.Bench.{Bench}
 use Rattle.bench.specs.Cells.{limit}
@@ -27,15 +28,15 @@ module _ {L R : Type 0} (lefts : L → Meaning) (rights : R → Meaning) (b next
   compared_here : TellsTheTruth lefts rights b → Compared l r c before now'
   compared_here truth =
       let here = truth.always grant_all _ _ next (then_called untouched first) in
-      let (v, same, when) = here.truly AskVerdict (Told c.verdict) next told in
-      let counts = here.truly Tally (Tallied c.worked c.recorded) next tallied in
-      let true_one : c.verdict ≡ v = cc in
-      let told_here : c.verdict ≡ next.state.verdict = cc told.answered in
+      let (answer, when) = here.truly AskVerdict (Told c.verdict) next told in
+      let (counts, ranked) = here.truly Tally (Tallied c.worked c.recorded) next tallied in
+      let true_one : c.verdict ≡ (after l r limit limit).verdict = cc in
       record {
         verdict = rw true_one (when.enough (omega arith));
         worked = cc;
         recorded = cc;
-        show = rw (told_here ∙ ap (λ st. st.verdict) here.state) (here.truly (WriteShow before) (Written c.length now') next shown);
+        ranked = ranked;
+        show = rw true_one (here.truly (WriteShow before) (Written c.length now') next shown);
       }
 
   pub compared : (left : L) (right : R) → (b.left ≡ left) × (b.right ≡ right) → TellsTheTruth lefts rights b → Compared (lefts left) (rights right) c before now'

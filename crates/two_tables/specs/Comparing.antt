@@ -7,16 +7,19 @@ use Rattle.search.specs.declared.states.ShowRefusal.TheVariants.{NoShow}
 use Rattle.search.specs.Search.{recorded, after}
 use Rattle.search.specs.Calls.{Written, verdict_word}
 use Rattle.search.specs.Truth.{TrueVerdict}
+use Rattle.search.specs.Units.{RecordedInRank}
 use Rattle.search.specs.Runs.{ShowTold}
 use Rattle.bench.specs.Cells.{limit}
 use Rattle.two_tables.specs.declared.Comparison.{Comparison}
 
--- Of machines with equally many cues: the verdict is the true one, the tally is that of the search, and the show found is the
--- first that divides them. The buffer held the first bytes before, and holds the second now.
+-- Of machines with equally many cues: the verdict is the true one, the tally is that of the search, whose recorded pairs are the
+-- first in rank, and the show found is the first that divides the machines. The buffer held the first bytes before, and holds
+-- the second now.
 pub record Compared {L R : Type 0} (l r : Meaning) (c : Comparison L R) (before now' : List ℕ) : Type 0 where
   pub verdict : TrueVerdict l r limit c.verdict
   pub worked : c.worked ≡ (after l r limit limit).worked
   pub recorded : c.recorded ≡ recorded (after l r limit limit)
+  pub ranked : RecordedInRank l r limit limit
   pub show : ShowTold l r limit c.verdict before (Written c.length now')
 
 -- Of machines with different cue counts: nothing is compared, and the buffer is as it was.
