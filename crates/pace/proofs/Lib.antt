@@ -1,1 +1,1 @@
-pub mod Loaded
+pub mod FirstGrant

@@ -26,5 +26,5 @@ pub record Wheel (states first : ℕ) (m : Meaning) : Type 0 where
 
 -- A comparison of a wheel of 64 states with one of 32 that the other cues turn, with all the grants that it can need, works so
 -- many joint positions.
-abbrev pub Load : ℕ → Type 0
-Load n = (l r : Meaning) × Wheel 64 0 l × Wheel 32 16 r × (n ≡ (after l r limit limit).worked)
+abbrev pub WheelsWorked : ℕ → Type 0
+WheelsWorked n = (l r : Meaning) × Wheel 64 0 l × Wheel 32 16 r × (n ≡ (after l r limit limit).worked)

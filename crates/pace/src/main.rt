@@ -1,11 +1,11 @@
-//! A load for the bench: compares two tables with 32 cues and 2,048 joint positions, the most that a bench records, so many
+//! A load for the bench: compares two tables with 32 cues and 2,048 joint positions, the most that a bench records, as many
 //! times as its argument says. It prints how many joint positions were worked, and on standard error how many a second.
 
 #![tactic(auto)]
 
 ghost use Rattle.std.specs.Prelude.{◌≡◌, ◌*◌, ◌/◌, ◌≤◌, max};
 ghost use Rattle.machine.specs.Table.{table_meaning};
-ghost use Rattle.pace.specs.Wheel.{turns, Laid, Wheel, Load};
+ghost use Rattle.pace.specs.Wheel.{turns, Laid, Wheel, WheelsWorked};
 
 use bench::{Bench, LIMIT};
 use machine::Table;
@@ -51,7 +51,7 @@ fn wheel(states: u8, first: u8) -> Table
 
 // Compares a wheel of 64 states with one of 32 that turns by the other cues, and answers how many joint positions it worked.
 fn compare() -> u16
-    ensures { Load result }
+    ensures { WheelsWorked result }
 {
     let mut bench = Bench::open(wheel(64, 0), wheel(32, 16));
     bench.advance(LIMIT)

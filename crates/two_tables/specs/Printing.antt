@@ -18,20 +18,23 @@ abbrev pub cues_text : Meaning → ℕ → ℕ → List ℕ
 cues_text m s zero = []
 cues_text m s (suc k) = cues_text m s k ++ cue_text m s k
 
--- A state: its number and whether a show may close there, and where every cue leads.
+-- A state's number, and whether a show may close there.
 abbrev pub head_text : Meaning → ℕ → List ℕ
 head_text m s = decimal s ++ (if m.closes s then codes ", may close" else []) ++ codes ":"
 
+-- A state: that, and where every cue leads.
 abbrev pub state_text : Meaning → ℕ → List ℕ
 state_text m s = head_text m s ++ cues_text m s m.steps.cues
 
--- A show: its length, and the names of its cues.
+-- A cue of a show, by its name.
 abbrev pub name_text : ℕ → List ℕ
 name_text c = codes " " ++ cue_name c
 
+-- A show: its length, and the names of its cues.
 abbrev pub show_text : Show → List ℕ
 show_text s = decimal (length s) ++ flat_map name_text s
 
+-- The text of a line that shows a state, and of one that shows a show.
 abbrev pub state_line : StateLine → List ℕ
 state_line line = state_text (table_meaning line.table.now) line.state
 

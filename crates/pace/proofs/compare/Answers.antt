@@ -1,6 +1,6 @@
 use Rattle.machine.specs.Table.{table_meaning}
 use Rattle.bench.specs.Cells.{limit}
-use Rattle.pace.proofs.Loaded.{first_grant}
+use Rattle.pace.proofs.FirstGrant.{first_grant}
 use Rattle.pace.proofs.compare.Goals as goal
 
 pub returns : goal.returns
