@@ -1,8 +1,8 @@
 -- What a bench opened new answers to its first grant.
 -- Assumes nothing.
-use Rattle.std.proofs.Common.{◌≡◌, ℕ, ◌-◌, ◌==◌, Bool, true, false, if◌then◌else◌, refl, ap, arith}
+use Rattle.std.proofs.Common.{◌≡◌, ℕ, ◌-◌, ap, arith}
 use Rattle.machine.specs.Meaning.{Meaning}
-use Rattle.search.specs.Search.{begun, unlike_search, novelty, start_pair, opened, continued, after}
+use Rattle.search.specs.Search.{opened, continued, after}
 use Rattle.search.specs.Calls.{Advance, Worked}
 use Rattle.bench.specs.declared.benches.Bench.{Bench}
 use Rattle.bench.specs.Cells.{limit}
@@ -10,11 +10,7 @@ use Rattle.bench.specs.Bench.{Called}
 
 -- Opening works no pair.
 opened_worked : (l r : Meaning) → (opened l r).worked ≡ 0
-opened_worked l r = none (l.steps.cues == r.steps.cues)
-  where
-    none : (b : Bool) → (if b then begun (start_pair l r) (novelty l r (start_pair l r)) else unlike_search).worked ≡ 0
-    none true = refl
-    none false = refl
+opened_worked l r = grind arith
 
 -- So the answer is how many are worked after so many units.
 pub first_grant : {L R : Type 0} (lefts : L → Meaning) (rights : R → Meaning) (left : L) (right : R) (b next : Bench L R) (m n : ℕ)
