@@ -1,3 +1,4 @@
+pub mod ByLast
 pub mod Order
 pub mod Alike
 pub mod Showing

@@ -1,0 +1,7 @@
+pub mod Ahead
+pub mod Places
+pub mod Verdicts
+pub mod Every
+pub mod Walks
+pub mod Lacking
+pub mod Numbering

@@ -1,0 +1,101 @@
+-- The states of one rule: how it moves, and where a show may close.
+-- Assumes nothing.
+use Rattle.std.specs.Prelude.{◌≡◌, ℕ, suc, ◌+◌, ◌-◌, ◌*◌, ◌<◌, ◌≤◌, Bool, true, false, ◌&&◌, ◌==◌, ◌↔◌, ◌++◌, nat_lt, slice_index, slice_index_or, fold, map, if◌then◌else◌, IsTrue}
+use Rattle.std.specs.List.{list_all}
+use Rattle.machine.specs.Show.{Earlier}
+use Rattle.rules.specs.declared.letters.Letter.{Letter}
+use Rattle.rules.specs.declared.letters.Letter.TheVariants.{A, B, Other}
+use Rattle.rules.specs.declared.moves.TheConstants.{MOVES, CLOSING, STATES}
+use Rattle.rules.specs.declared.templates.Template.{Template}
+use Rattle.rules.specs.declared.templates.Template.TheVariants.{Existence, Absence, Exactly}
+use Rattle.rules.specs.declared.templates.Arguments.{Arguments}
+use Rattle.rules.specs.declared.templates.Arguments.TheVariants.{CueAndCount, OneCue, TwoCues}
+use Rattle.rules.specs.Template.{template_number, arguments_of, Holds}
+use Rattle.rules.specs.Word.{Word}
+
+-- The letters' places: A before B before other.
+abbrev pub place_of : Letter → ℕ
+place_of A = 0
+place_of B = 1
+place_of Other = 2
+
+-- A counting rule counts the times of A up to the most that it tells apart.
+abbrev pub counted : ℕ → ℕ → Letter → ℕ
+counted most s A = if nat_lt s most then s + 1 else s
+counted most s l = s
+
+-- A rule without a count moves by the table, in which its template has a row of 4 states.
+abbrev pub row : Template → ℕ
+row t = template_number t - 4
+
+abbrev pub tabled : ℕ → ℕ → Letter → ℕ
+tabled r s l = if nat_lt s 4 then slice_index MOVES (r * 12 + s * 3 + place_of l) else s
+
+-- The next state for a rule with count n at state s.
+abbrev pub next_state : Template → ℕ → ℕ → Letter → ℕ
+next_state Existence n s l = counted n s l
+next_state Absence n s l = counted n s l
+next_state Exactly n s l = counted (suc n) s l
+next_state t n s l = tabled (row t) s l
+
+-- Whether a show may close at state s.
+abbrev pub may_close : Template → ℕ → ℕ → Bool
+may_close Existence n s = s == n
+may_close Absence n s = nat_lt s n
+may_close Exactly n s = s == n
+may_close t n s = nat_lt s 4 && slice_index_or CLOSING (row t * 4 + s) false
+
+-- How many states the rule has.
+abbrev pub state_count : Template → ℕ → ℕ
+state_count Existence n = n + 1
+state_count Absence n = n + 1
+state_count Exactly n = n + 2
+state_count t n = slice_index STATES (row t)
+
+-- The state to which a word leads from a given one.
+abbrev pub led : Template → ℕ → ℕ → Word → ℕ
+led t n s w = fold (next_state t n) s w
+
+-- The letters of a rule: A, B and other, or A and other where its template lacks B.
+abbrev pub has_letter : Arguments → Letter → Bool
+has_letter TwoCues l = true
+has_letter a B = false
+has_letter a l = true
+
+-- A word over the letters of a rule.
+abbrev pub OverItsLetters : Template → Word → Type 0
+OverItsLetters t w = IsTrue (list_all (has_letter (arguments_of t)) w)
+
+-- Show order of words, A before B before other.
+abbrev pub EarlierWord : Word → Word → Type 0
+EarlierWord v w = Earlier (map place_of v) (map place_of w)
+
+-- No continuation divides two words for a rule.
+abbrev pub Undivided : Template → ℕ → Word → Word → Type 0
+Undivided t n u v = (w : Word) → OverItsLetters t w → Holds t n (u ++ w) ↔ Holds t n (v ++ w)
+
+-- A word over the rule's letters leads to a state; some such word does; some such word does that is earlier than another.
+abbrev pub LeadsTo : Template → ℕ → ℕ → Word → Type 0
+LeadsTo t n s v = OverItsLetters t v × (led t n 0 v ≡ s)
+
+abbrev pub Reached : Template → ℕ → ℕ → Type 0
+Reached t n s = (v : Word) × LeadsTo t n s v
+
+abbrev pub ReachedBefore : Template → ℕ → Word → ℕ → Type 0
+ReachedBefore t n w s = (v : Word) × LeadsTo t n s v × EarlierWord v w
+
+-- What the states of a rule with count n are.
+pub record StatesAre (t : Template) (n : ℕ) : Type 0 where
+  -- two words lead to one state exactly when no continuation divides them
+  pub told_apart : (u v : Word) → (led t n 0 u ≡ led t n 0 v) ↔ Undivided t n u v
+  -- every word leads to a state of the rule, and every state of the rule is reached
+  pub within : (w : Word) → led t n 0 w < state_count t n
+  pub reached : (s : ℕ) → s < state_count t n → Reached t n s
+  -- states are numbered as words first reach them: a lower one is reached earlier
+  pub numbered : (w : Word) (s : ℕ) → OverItsLetters t w → s < led t n 0 w → ReachedBefore t n w s
+  pub few : state_count t n ≤ 16
+  -- a state that the rule lacks moves to itself and may not close
+  pub stays : (s : ℕ) (l : Letter) → state_count t n ≤ s → next_state t n s l ≡ s
+  pub bars : (s : ℕ) → state_count t n ≤ s → may_close t n s ≡ false
+  -- where the template lacks B, its moves by B repeat those by other
+  pub repeats : (s : ℕ) → has_letter (arguments_of t) B ≡ false → next_state t n s B ≡ next_state t n s Other

@@ -1,0 +1,12 @@
+//! Letters.
+
+/// A letter: what a cue is to a rule.
+#[derive(Clone, Copy, Debug, PartialEq, Eq, Hash)]
+pub enum Letter {
+    /// The cue falls under the rule's A.
+    A,
+    /// The cue falls under the rule's B.
+    B,
+    /// Any other cue.
+    Other,
+}

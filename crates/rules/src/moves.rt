@@ -1,0 +1,49 @@
+//! The moves of the templates without a count.
+
+/// The moves of templates 4 to 21: for each of the 18 templates, 4 states and 3 letters (A, B, other) the next state. A state
+/// that a template lacks moves to itself.
+pub const MOVES: [u8; 216] = [
+    1, 2, 2, 1, 1, 1, 2, 2, 2, 3, 3, 3, // init
+    0, 1, 1, 0, 1, 1, 2, 2, 2, 3, 3, 3, // last
+    1, 2, 0, 1, 2, 1, 2, 2, 2, 3, 3, 3, // responded-existence
+    1, 2, 0, 1, 3, 1, 3, 2, 2, 3, 3, 3, // co-existence
+    1, 0, 0, 1, 0, 1, 2, 2, 2, 3, 3, 3, // response
+    1, 2, 0, 1, 1, 1, 2, 2, 2, 3, 3, 3, // precedence
+    1, 2, 0, 1, 3, 1, 2, 2, 2, 1, 3, 3, // succession
+    1, 0, 0, 2, 0, 1, 2, 2, 2, 3, 3, 3, // alternate-response
+    1, 2, 0, 1, 0, 1, 2, 2, 2, 3, 3, 3, // alternate-precedence
+    1, 2, 0, 2, 0, 1, 2, 2, 2, 3, 3, 3, // alternate-succession
+    1, 0, 0, 2, 0, 2, 2, 2, 2, 3, 3, 3, // chain-response
+    1, 2, 0, 1, 0, 0, 2, 2, 2, 3, 3, 3, // chain-precedence
+    1, 2, 0, 2, 0, 2, 2, 2, 2, 3, 3, 3, // chain-succession
+    1, 2, 0, 1, 3, 1, 3, 2, 2, 3, 3, 3, // not-co-existence
+    1, 0, 0, 1, 2, 1, 2, 2, 2, 3, 3, 3, // not-succession
+    1, 0, 0, 1, 2, 0, 2, 2, 2, 3, 3, 3, // not-chain-succession
+    1, 1, 0, 1, 1, 1, 2, 2, 2, 3, 3, 3, // choice
+    1, 2, 0, 1, 3, 1, 3, 2, 2, 3, 3, 3, // exclusive-choice
+];
+
+/// Where a show may close, beside the moves: for each of the 18 templates and 4 states.
+pub const CLOSING: [bool; 72] = [
+    true, true, false, false, // init
+    true, false, false, false, // last
+    true, false, true, false, // responded-existence
+    true, false, false, true, // co-existence
+    true, false, false, false, // response
+    true, true, false, false, // precedence
+    true, false, false, true, // succession
+    true, false, false, false, // alternate-response
+    true, true, false, false, // alternate-precedence
+    true, false, false, false, // alternate-succession
+    true, false, false, false, // chain-response
+    true, true, false, false, // chain-precedence
+    true, false, false, false, // chain-succession
+    true, true, true, false, // not-co-existence
+    true, true, false, false, // not-succession
+    true, true, false, false, // not-chain-succession
+    false, true, false, false, // choice
+    false, true, true, false, // exclusive-choice
+];
+
+/// How many states each of the 18 templates has.
+pub const STATES: [u8; 18] = [3, 2, 3, 4, 2, 3, 4, 3, 3, 3, 3, 3, 3, 4, 3, 3, 2, 4];
