@@ -39,6 +39,7 @@ tells_some t (l ∷ w) = Decides-like _ longer shorter (Decides-or _ _ (tells_a 
     longer : (Some l ≡ Some A) ⊎ Stands A w → Stands A (l ∷ w)
     longer (inl e) = (0, e)
     longer (inr (i, e)) = (suc i, e)
+
     shorter : Stands A (l ∷ w) → (Some l ≡ Some A) ⊎ Stands A w
     shorter (zero, e) = inl e
     shorter (suc i, e) = inr (i, e)
@@ -50,6 +51,7 @@ tells_last t (l ∷ w) = Decides-like _ longer shorter (Decides-or _ _ (Decides-
     longer : ((w ≡ []) × (Some l ≡ Some A)) ⊎ EndsWithA w → EndsWithA (l ∷ w)
     longer (inl (e, is)) = (0, rw e refl, is)
     longer (inr (i, e, is)) = (suc i, ap suc e, is)
+
     shorter : EndsWithA (l ∷ w) → ((w ≡ []) × (Some l ≡ Some A)) ⊎ EndsWithA w
     shorter (zero, e, is) = inl (no_more w (omega arith), is)
       where
@@ -84,6 +86,7 @@ tells_next t (l ∷ w) = Decides-like _ longer shorter (Decides-or _ _ (tells_b 
     longer : (Some l ≡ Some B) ⊎ (IsTrue (gap_after t l) × NextB (gap_after t) w) → NextB (gap_after t) (l ∷ w)
     longer (inl e) = (0, e, λ k m below above is. absurd (omega arith))
     longer (inr (h, (j, e, o))) = (suc j, e, only_more l w j h o)
+
     shorter : NextB (gap_after t) (l ∷ w) → (Some l ≡ Some B) ⊎ (IsTrue (gap_after t l) × NextB (gap_after t) w)
     shorter (zero, e, o) = inl e
     shorter (suc j, e, o) = inr (o 0 l (omega arith) (omega arith) refl, (j, e, λ k m below above is. o (suc k) m (omega arith) (omega arith) is))
@@ -139,8 +142,10 @@ tells_answered t (l ∷ w) =
     longer : (Some l ≡ Some A → Is (wanted t) (NextB (gap_after t) w)) × Answered (wanted t) (gap_after t) w → Answered (wanted t) (gap_after t) (l ∷ w)
     longer (first, rest) zero e = is_like (wanted t) (answer_first l w) (first_answer l w) (first e)
     longer (first, rest) (suc i) e = is_like (wanted t) (answer_on l w i) (answer_back l w i) (rest i e)
+
     shorter_first : Answered (wanted t) (gap_after t) (l ∷ w) → Some l ≡ Some A → Is (wanted t) (NextB (gap_after t) w)
     shorter_first h e = is_like (wanted t) (first_answer l w) (answer_first l w) (h 0 e)
+
     shorter_rest : Answered (wanted t) (gap_after t) (l ∷ w) → Answered (wanted t) (gap_after t) w
     shorter_rest h i e = is_like (wanted t) (answer_back l w i) (answer_on l w i) (h (suc i) e)
 
@@ -173,10 +178,13 @@ tells_preceded t (l ∷ w) x = Decides-at _ _ (step x) (Decides-like _ longer (�
     step : (x : Bool) → preceded_from (ahead t (l ∷ w)) x ≡ preceded_in_front t l (ahead t w) x
     step true = refl
     step false = refl
+
     longer : (Some l ≡ Some B → IsTrue x) × Preceded (gap_before t) (is_a l || (x && gap_before t l)) w → Preceded (gap_before t) x (l ∷ w)
     longer (first, rest) zero e = inr (first e, λ k m below above is. absurd (omega arith))
     longer (first, rest) (suc i) e = need_on (gap_before t) x l w i (rest i e)
+
     shorter_first : Preceded (gap_before t) x (l ∷ w) → Some l ≡ Some B → IsTrue x
     shorter_first h e = elim (h 0 e) [ inl n ↦ absurd (omega (arith, n.1)) | inr n ↦ n.0 ]
+
     shorter_rest : Preceded (gap_before t) x (l ∷ w) → Preceded (gap_before t) (is_a l || (x && gap_before t l)) w
     shorter_rest h i e = need_back (gap_before t) x l w i (h (suc i) e)

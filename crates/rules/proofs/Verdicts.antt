@@ -44,6 +44,7 @@ answer_alternate w i = (λ h. (h.0, h.1, h.2, without_a h.0 h.3), λ h. (h.0, h.
   where
     without_a : (j : ℕ) → Only no_a w (suc i) j → NotBetween A w i j
     without_a j o k after before e = absurd (cc (o k A (omega arith) before e))
+
     only_without : (j : ℕ) → NotBetween A w i j → Only no_a w (suc i) j
     only_without j none_between k A after before e = absurd (none_between k (omega arith) before e)
     only_without j none_between k B after before e = refl
@@ -66,6 +67,7 @@ need_alternate w i = (without_b, λ h. inl (h.0, h.1, h.2, only_without h.0 h.3)
     without_b : Need no_b false w i → (j : ℕ) × (j < i) × StandsAt A w j × NotBetween B w j i
     without_b (inl (j, lt, e, o)) = (j, lt, e, λ k after before at. absurd (cc (o k B (omega arith) before at)))
     without_b (inr (h, o)) = absurd (cc h)
+
     only_without : (j : ℕ) → NotBetween B w j i → Only no_b w (suc j) i
     only_without j none_between k B after before e = absurd (none_between k (omega arith) before e)
     only_without j none_between k A after before e = refl

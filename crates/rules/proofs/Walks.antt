@@ -1,18 +1,19 @@
 -- Walking the states and closing is the template's holding.
 -- Assumes nothing.
-use Rattle.std.proofs.Common.{◌≡◌, ℕ, zero, suc, ◌+◌, ◌*◌, ◌<◌, ◌≤◌, Bool, true, false, ◌&&◌, ◌||◌, [], ◌∷◌, ◌⊎◌, inl, inr, refl, sym, ◌∙◌, ap, arith, IsTrue, nat_lt, slice_index, slice_index_or, min, fold, ◌==◌}
+use Rattle.std.proofs.Common.{◌≡◌, ℕ, zero, suc, ◌+◌, ◌*◌, ◌<◌, ◌≤◌, Bool, true, false, ◌&&◌, ◌||◌, [], ◌∷◌, ◌⊎◌, inl, inr, refl, sym, ◌∙◌, ap, arith, IsTrue, nat_lt, slice_index, min, fold, ◌==◌}
 use Rattle.std.specs.Bool.{beq, Decides}
 use Rattle.std.proofs.lemmas.Bool.Decides.{Decides-at, nat_tests}
 use Rattle.rules.specs.declared.letters.Letter.{Letter}
 use Rattle.rules.specs.declared.letters.Letter.TheVariants.{A, B, Other}
-use Rattle.rules.specs.declared.moves.TheConstants.{CLOSING, STATES}
+use Rattle.rules.specs.declared.moves.TheConstants.{STATES}
 use Rattle.rules.specs.declared.templates.Template.{Template}
 use Rattle.rules.specs.declared.templates.Template.TheVariants.{Existence, Absence, Exactly}
 use Rattle.rules.specs.declared.templates.Arguments.{Arguments}
 use Rattle.rules.specs.declared.templates.Arguments.TheVariants.{CueAndCount, OneCue, TwoCues}
 use Rattle.rules.specs.Template.{arguments_of, Holds}
 use Rattle.rules.specs.Word.{Word, times_a}
-use Rattle.rules.specs.States.{row, counted, tabled, next_state, may_close, state_count, led}
+use Rattle.rules.specs.Rule.{Terms, word_of, ClosesWhereItHolds}
+use Rattle.rules.specs.States.{row, counted, tabled, table_closes, next_state, may_close, state_count, led}
 use Rattle.rules.proofs.Ahead.{Ahead, nothing, in_front, ahead, by_state, asks}
 use Rattle.rules.proofs.Every.{both, every_letter, letter_passes, every_below, below_passes, every_template, template_passes, every_rest, rest_passes}
 use Rattle.rules.proofs.Verdicts.{asks_that_it_holds}
@@ -53,7 +54,7 @@ pub record ByTable (t : Template) (n : ℕ) : Type 0 where
   pub without : counts t ≡ false
   pub moves : (s : ℕ) (l : Letter) → next_state t n s l ≡ tabled (row t) s l
   pub closes : (s : ℕ) → may_close t n s ≡ may_close t 0 s
-  pub bars : (s : ℕ) → may_close t 0 s ≡ (nat_lt s 4 && slice_index_or CLOSING (row t * 4 + s) false)
+  pub bars : (s : ℕ) → may_close t 0 s ≡ table_closes (row t) s
   pub states : state_count t n ≡ slice_index STATES (row t)
   pub lacks : (s : ℕ) (r : Ahead) → 4 ≤ s → asks t r s ≡ false
 
@@ -110,3 +111,6 @@ holds Existence n w = rw (counted_up n 0 w (omega arith)) (at_least n (times_a w
 holds Absence n w = rw (counted_up n 0 w (omega arith)) (fewer n (times_a w))
 holds Exactly n w = rw (counted_up (suc n) 0 w (omega arith)) (just n (times_a w))
 holds t n w = holds_by_table t n w (λ e. cc)
+
+pub closes_where_it_holds : (r : Terms) → ClosesWhereItHolds r
+closes_where_it_holds r s = holds r.template r.n (word_of r s)

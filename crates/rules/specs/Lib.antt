@@ -1,3 +1,5 @@
 pub mod Word
 pub mod Template
+pub mod Form
 pub mod States
+pub mod Rule

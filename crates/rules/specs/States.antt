@@ -31,6 +31,9 @@ row t = template_number t - 4
 abbrev pub tabled : ℕ → ℕ → Letter → ℕ
 tabled r s l = if nat_lt s 4 then slice_index MOVES (r * 12 + s * 3 + place_of l) else s
 
+abbrev pub table_closes : ℕ → ℕ → Bool
+table_closes r s = nat_lt s 4 && slice_index_or CLOSING (r * 4 + s) false
+
 -- The next state for a rule with count n at state s.
 abbrev pub next_state : Template → ℕ → ℕ → Letter → ℕ
 next_state Existence n s l = counted n s l
@@ -43,7 +46,7 @@ abbrev pub may_close : Template → ℕ → ℕ → Bool
 may_close Existence n s = s == n
 may_close Absence n s = nat_lt s n
 may_close Exactly n s = s == n
-may_close t n s = nat_lt s 4 && slice_index_or CLOSING (row t * 4 + s) false
+may_close t n s = table_closes (row t) s
 
 -- How many states the rule has.
 abbrev pub state_count : Template → ℕ → ℕ

@@ -8,4 +8,5 @@ mod rules;
 mod templates;
 
 pub use letters::Letter;
+pub use rules::{Rule, RuleRefusal};
 pub use templates::{Arguments, Template};

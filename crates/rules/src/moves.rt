@@ -1,4 +1,11 @@
-//! The moves of the templates without a count.
+//! The states of the templates without a count, as constants, and reading them.
+ghost use Rattle.std.specs.Prelude.{◌≡◌, ◌≤◌, slice_index};
+ghost use Rattle.rules.specs.Template.{template_number};
+ghost use Rattle.rules.specs.States.{row, tabled, table_closes};
+
+use crate::letters::Letter;
+use crate::templates::Template;
+use machine::Numbered;
 
 /// The moves of templates 4 to 21: for each of the 18 templates, 4 states and 3 letters (A, B, other) the next state. A state
 /// that a template lacks moves to itself.
@@ -47,3 +54,41 @@ pub const CLOSING: [bool; 72] = [
 
 /// How many states each of the 18 templates has.
 pub const STATES: [u8; 18] = [3, 2, 3, 4, 2, 3, 4, 3, 3, 3, 3, 3, 3, 4, 3, 3, 2, 4];
+
+// Each template has a row with a place for each of 4 states.
+const PLACES: u8 = 4;
+
+// The row of a template.
+fn row(template: Template) -> usize
+    requires { 4 ≤ template_number template }
+    ensures { result ≡ row template }
+{
+    usize::from(template.number() - 4)
+}
+
+/// How many states the template has.
+pub(crate) fn states(template: Template) -> u8
+    requires { 4 ≤ template_number template }
+    ensures { result ≡ slice_index STATES (row template) }
+{
+    STATES[row(template)]
+}
+
+/// The next state.
+pub(crate) fn step(template: Template, state: u8, letter: Letter) -> u8
+    requires { 4 ≤ template_number template }
+    ensures { result ≡ tabled (row template) state letter }
+{
+    if state >= PLACES {
+        return state;
+    }
+    MOVES[row(template) * 12 + usize::from(state) * 3 + letter as usize]
+}
+
+/// Whether a show may close at the state.
+pub(crate) fn closes(template: Template, state: u8) -> bool
+    requires { 4 ≤ template_number template }
+    ensures { result ≡ table_closes (row template) state }
+{
+    state < PLACES && CLOSING[row(template) * 4 + usize::from(state)]
+}

@@ -1,0 +1,30 @@
+-- Which arguments are in form for a template.
+-- Assumes nothing.
+use Rattle.std.specs.Prelude.{◌≡◌, ℕ, ◌≤◌}
+use Rattle.rules.specs.declared.templates.Arguments.{Arguments}
+use Rattle.rules.specs.declared.templates.Arguments.TheVariants.{CueAndCount, OneCue, TwoCues}
+
+-- A count is 1 to 14; two cues are different.
+abbrev pub CountRight : Arguments → ℕ → Type 0
+CountRight args n = args ≡ CueAndCount → (1 ≤ n) × (n ≤ 14)
+
+abbrev pub CuesRight : Arguments → ℕ → ℕ → Type 0
+CuesRight args a b = args ≡ TwoCues → a ≡ b → ⊥
+
+-- An argument that the template lacks is kept as 0.
+abbrev pub kept_b : Arguments → ℕ → ℕ
+kept_b TwoCues b = b
+kept_b CueAndCount b = 0
+kept_b OneCue b = 0
+
+abbrev pub kept_n : Arguments → ℕ → ℕ
+kept_n CueAndCount n = n
+kept_n OneCue n = 0
+kept_n TwoCues n = 0
+
+-- What every rule keeps of its arguments.
+pub record InForm (args : Arguments) (a b n : ℕ) : Type 0 where
+  pub count : CountRight args n
+  pub cues : CuesRight args a b
+  pub no_b : b ≡ kept_b args b
+  pub no_n : n ≡ kept_n args n

@@ -1,0 +1,74 @@
+//! A rule as an automaton over letters.
+ghost use Rattle.std.specs.Prelude.{◌≡◌, ◌↔◌, IsTrue};
+ghost use Rattle.rules.specs.States.{StatesAre};
+ghost use Rattle.rules.specs.Rule.{terms, letter_of, FallsUnder, states_of, step_of, closes_at, HoldsOf, ClosesWhereItHolds};
+
+use super::Rule;
+use crate::letters::Letter;
+use crate::moves;
+use crate::templates::{Arguments, Template};
+
+impl Rule {
+    /// The letter that a cue is to the rule.
+    pub fn letter(self, cue: u8) -> Letter
+        ensures value { result ≡ letter_of (terms self) cue }
+        ensures falls { FallsUnder (terms self) cue result }
+    {
+        if cue == self.a {
+            Letter::A
+        } else if self.template.arguments() == Arguments::TwoCues && cue == self.b {
+            Letter::B
+        } else {
+            Letter::Other
+        }
+    }
+
+    /// How many states the rule has.
+    pub fn states(self) -> u8
+        ensures value { result ≡ states_of (terms self) }
+        ensures are { StatesAre (terms self).template (terms self).n }
+    {
+        match self.template {
+            Template::Existence => self.n + 1,
+            Template::Absence => self.n + 1,
+            Template::Exactly => self.n + 2,
+            template => moves::states(template),
+        }
+    }
+
+    /// The state to which a letter leads from a state. A state that the rule lacks leads to itself.
+    pub fn step(self, state: u8, letter: Letter) -> u8
+        ensures { result ≡ step_of (terms self) state letter }
+    {
+        match (self.template, letter) {
+            (Template::Existence, Letter::A) if state < self.n => state + 1,
+            (Template::Absence, Letter::A) if state < self.n => state + 1,
+            (Template::Exactly, Letter::A) if state <= self.n => state + 1,
+            (Template::Existence | Template::Absence | Template::Exactly, _) => state,
+            (template, letter) => moves::step(template, state, letter),
+        }
+    }
+
+    /// Whether a show may close at a state: the rule holds of the shows that lead there. At a state that the rule lacks none may.
+    pub fn closes(self, state: u8) -> bool
+        ensures value { result ≡ closes_at (terms self) state }
+        ensures law { ClosesWhereItHolds (terms self) }
+    {
+        match self.template {
+            Template::Existence => state == self.n,
+            Template::Absence => state < self.n,
+            Template::Exactly => state == self.n,
+            template => moves::closes(template, state),
+        }
+    }
+
+    /// Whether the rule holds of a show.
+    pub fn holds(self, show: &[u8]) -> bool
+        ensures { IsTrue result ↔ HoldsOf (terms self) show.now }
+    {
+        let state = show
+            .iter()
+            .fold(0, |state, &cue| self.step(state, self.letter(cue)));
+        self.closes(state)
+    }
+}
