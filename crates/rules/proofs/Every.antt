@@ -6,7 +6,7 @@ use Rattle.rules.specs.declared.letters.Letter.{Letter}
 use Rattle.rules.specs.declared.letters.Letter.TheVariants.{A, B, Other}
 use Rattle.rules.specs.declared.templates.Template.{Template}
 use Rattle.rules.specs.declared.templates.Template.TheVariants.{Existence, Absence, Exactly, Init, Last, RespondedExistence, CoExistence, Response, Precedence, Succession, AlternateResponse, AlternatePrecedence, AlternateSuccession, ChainResponse, ChainPrecedence, ChainSuccession, NotCoExistence, NotSuccession, NotChainSuccession, Choice, ExclusiveChoice}
-use Rattle.rules.specs.Template.{template_number}
+use Rattle.rules.specs.Naming.{template_number}
 use Rattle.rules.specs.Word.{Word}
 use Rattle.rules.proofs.Ahead.{Ahead}
 

@@ -7,7 +7,7 @@ use Rattle.rules.specs.declared.letters.Letter.TheVariants.{A, B, Other}
 use Rattle.rules.specs.declared.moves.TheConstants.{STATES}
 use Rattle.rules.specs.declared.templates.Template.{Template}
 use Rattle.rules.specs.declared.templates.Template.TheVariants.{Existence, Absence, Exactly}
-use Rattle.rules.specs.Template.{arguments_of}
+use Rattle.rules.specs.Naming.{arguments_of}
 use Rattle.rules.specs.States.{row, counted, tabled, next_state, may_close, state_count, has_letter}
 use Rattle.rules.proofs.Every.{both, either, every_letter, letter_passes, every_below, below_passes, every_template, template_passes}
 use Rattle.rules.proofs.Walks.{counts, ByTable, by_table, before_or_past, not_below}

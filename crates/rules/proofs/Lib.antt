@@ -5,3 +5,4 @@ pub mod Every
 pub mod Walks
 pub mod Lacking
 pub mod Numbering
+pub mod Examples

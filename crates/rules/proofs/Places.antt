@@ -1,7 +1,7 @@
 -- What the tests of the rest of a word say, by places.
 -- Assumes nothing.
 use Rattle.std.proofs.Common.{◌≡◌, ℕ, zero, suc, ◌<◌, ◌≤◌, Bool, true, false, not, ◌&&◌, ◌||◌, [], ◌∷◌, length, ◌⊎◌, inl, inr, refl, ap, subst, arith, IsTrue, Some, None, slice_get, rules}
-use Rattle.std.specs.Bool.{beq, Decides}
+use Rattle.std.specs.Bool.{beq, Decides, MatchBool}
 use Rattle.std.proofs.lemmas.Bool.Decides.{Decides-like, Decides-and, Decides-or, Decides-at}
 use Rattle.rules.specs.declared.letters.Letter.{Letter}
 use Rattle.rules.specs.declared.letters.Letter.TheVariants.{A, B, Other}
@@ -93,10 +93,9 @@ tells_next t (l ∷ w) = Decides-like _ longer shorter (Decides-or _ _ (tells_b 
 
 -- A fact, or its denial.
 abbrev pub Is : Bool → Type 0 → Type 0
-Is true P = P
-Is false P = P → ⊥
+Is y P = MatchBool y P (P → ⊥)
 
-tells_is : {P : Type 0} → (x y : Bool) → Decides x P → Decides (beq x y) (Is y P)
+pub tells_is : {P : Type 0} → (x y : Bool) → Decides x P → Decides (beq x y) (Is y P)
 tells_is true true d = (λ _. d.0 refl, λ _. refl)
 tells_is false true d = (λ h. cc, λ h. d.1 h)
 tells_is true false d = (λ h. cc, λ no. absurd (no (d.0 refl)))

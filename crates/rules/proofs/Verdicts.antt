@@ -10,7 +10,8 @@ use Rattle.rules.specs.declared.templates.Template.{Template}
 use Rattle.rules.specs.declared.templates.Template.TheVariants.{Existence, Absence, Exactly, Init, Last, RespondedExistence, CoExistence, Response, Precedence, Succession, AlternateResponse, AlternatePrecedence, AlternateSuccession, ChainResponse, ChainPrecedence, ChainSuccession, NotCoExistence, NotSuccession, NotChainSuccession, Choice, ExclusiveChoice}
 use Rattle.rules.specs.Word.{Word, StandsAt, Stands, StandsLater, StandsEarlier, NotBetween}
 use Rattle.rules.specs.declared.templates.Arguments.TheVariants.{CueAndCount}
-use Rattle.rules.specs.Template.{arguments_of, Holds, Responds, RespondsAlternately, RespondsDirectly, Precedes, PrecedesAlternately, PrecedesDirectly}
+use Rattle.rules.specs.Template.{Holds, Responds, RespondsAlternately, RespondsDirectly, Precedes, PrecedesAlternately, PrecedesDirectly}
+use Rattle.rules.specs.Naming.{arguments_of}
 use Rattle.rules.proofs.Ahead.{is_a, is_b, gap_after, gap_before, wanted, Ahead, ahead, asks}
 use Rattle.rules.proofs.Places.{Only, NextB, Answer, Answered, Need, Preceded, Is, EndsWithA, tells_empty, tells_first, tells_last, tells_some, tells_next, tells_answered, tells_preceded}
 

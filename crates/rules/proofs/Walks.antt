@@ -10,7 +10,8 @@ use Rattle.rules.specs.declared.templates.Template.{Template}
 use Rattle.rules.specs.declared.templates.Template.TheVariants.{Existence, Absence, Exactly}
 use Rattle.rules.specs.declared.templates.Arguments.{Arguments}
 use Rattle.rules.specs.declared.templates.Arguments.TheVariants.{CueAndCount, OneCue, TwoCues}
-use Rattle.rules.specs.Template.{arguments_of, Holds}
+use Rattle.rules.specs.Template.{Holds}
+use Rattle.rules.specs.Naming.{arguments_of}
 use Rattle.rules.specs.Word.{Word, times_a}
 use Rattle.rules.specs.Rule.{Terms, word_of, ClosesWhereItHolds}
 use Rattle.rules.specs.States.{row, counted, tabled, table_closes, next_state, may_close, state_count, led}

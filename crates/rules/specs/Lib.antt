@@ -1,5 +1,7 @@
 pub mod Word
 pub mod Template
+pub mod Naming
 pub mod Form
 pub mod States
 pub mod Rule
+pub mod Examples

@@ -11,7 +11,8 @@ use Rattle.rules.specs.declared.templates.Arguments.TheVariants.{TwoCues}
 use Rattle.rules.specs.declared.templates.Template.{Template}
 use Rattle.rules.specs.Form.{CountRight, CuesRight, kept_b, kept_n}
 use Rattle.rules.specs.Word.{Word}
-use Rattle.rules.specs.Template.{arguments_of, Holds}
+use Rattle.rules.specs.Template.{Holds}
+use Rattle.rules.specs.Naming.{arguments_of}
 use Rattle.rules.specs.States.{has_letter, next_state, may_close, state_count, led}
 
 -- What a rule says: its template and its arguments.

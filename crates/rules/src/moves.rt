@@ -1,6 +1,6 @@
 //! The states of the templates without a count, as constants, and reading them.
 ghost use Rattle.std.specs.Prelude.{◌≡◌, ◌≤◌, slice_index};
-ghost use Rattle.rules.specs.Template.{template_number};
+ghost use Rattle.rules.specs.Naming.{template_number};
 ghost use Rattle.rules.specs.States.{row, tabled, table_closes};
 
 use crate::letters::Letter;

@@ -1,5 +1,5 @@
 //! The type of a rule. Its calls are in the modules below.
-ghost use Rattle.rules.specs.Template.{arguments_of};
+ghost use Rattle.rules.specs.Naming.{arguments_of};
 ghost use Rattle.rules.specs.Form.{InForm};
 
 use crate::templates::Template;

@@ -1,6 +1,7 @@
 //! A rule as an automaton over letters.
 ghost use Rattle.std.specs.Prelude.{◌≡◌, ◌↔◌, IsTrue};
 ghost use Rattle.rules.specs.States.{StatesAre};
+ghost use Rattle.rules.specs.Examples.{ExamplesAsTold};
 ghost use Rattle.rules.specs.Rule.{terms, letter_of, FallsUnder, states_of, step_of, closes_at, HoldsOf, ClosesWhereItHolds};
 
 use super::Rule;
@@ -64,7 +65,8 @@ impl Rule {
 
     /// Whether the rule holds of a show.
     pub fn holds(self, show: &[u8]) -> bool
-        ensures { IsTrue result ↔ HoldsOf (terms self) show.now }
+        ensures value { IsTrue result ↔ HoldsOf (terms self) show.now }
+        ensures examples { ExamplesAsTold }
     {
         let state = show
             .iter()

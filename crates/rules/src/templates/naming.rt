@@ -1,6 +1,6 @@
 //! What templates are called, and which arguments they take.
 ghost use Rattle.std.specs.Prelude.{◌≡◌};
-ghost use Rattle.rules.specs.Template.{template_number, template_word, arguments_of};
+ghost use Rattle.rules.specs.Naming.{template_number, template_word, arguments_of};
 ghost use Rattle.std.proofs.Common.{rules};
 
 use super::{Arguments, Template};
