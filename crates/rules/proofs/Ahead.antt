@@ -1,6 +1,6 @@
 -- What matters of the rest of a word to a template without a count, and what each of its states asks of it.
 -- Assumes nothing.
-use Rattle.std.proofs.Common.{◌≡◌, ℕ, zero, suc, Bool, true, false, not, ◌&&◌, ◌||◌, [], ◌∷◌}
+use Rattle.std.proofs.Common.{ℕ, zero, suc, Bool, true, false, not, ◌&&◌, ◌||◌, [], ◌∷◌}
 use Rattle.std.specs.Bool.{beq}
 use Rattle.rules.specs.declared.letters.Letter.{Letter}
 use Rattle.rules.specs.declared.letters.Letter.TheVariants.{A, B}

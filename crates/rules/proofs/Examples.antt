@@ -1,6 +1,6 @@
 -- The examples are as told: walking the states says so, and it says what holds.
 -- Assumes nothing.
-use Rattle.std.proofs.Common.{◌≡◌, Bool, true, false, ◌&&◌, List, [], ◌∷◌, refl, IsTrue}
+use Rattle.std.proofs.Common.{Bool, List, [], ◌∷◌, refl, IsTrue}
 use Rattle.std.specs.Bool.{beq}
 use Rattle.std.specs.List.{AllByRecursion, list_all}
 use Rattle.rules.specs.Rule.{state_after, closes_at}

@@ -1,6 +1,6 @@
 -- What a rule lacks: a state beyond its own moves to itself and may not close, and a letter B repeats other.
 -- Assumes nothing.
-use Rattle.std.proofs.Common.{◌≡◌, ℕ, suc, ◌<◌, ◌≤◌, Bool, false, not, ◌&&◌, ◌||◌, ◌⊎◌, inl, inr, refl, sym, ◌∙◌, arith, IsTrue, nat_lt, ◌==◌, slice_index}
+use Rattle.std.proofs.Common.{◌≡◌, ℕ, suc, ◌<◌, ◌≤◌, Bool, false, not, ◌&&◌, ◌||◌, inl, inr, refl, sym, ◌∙◌, arith, IsTrue, nat_lt, ◌==◌, slice_index}
 use Rattle.std.proofs.lemmas.Bool.Decides.{Decides-eqb, nat_tests}
 use Rattle.rules.specs.declared.letters.Letter.{Letter}
 use Rattle.rules.specs.declared.letters.Letter.TheVariants.{A, B, Other}
@@ -9,7 +9,7 @@ use Rattle.rules.specs.declared.templates.Template.{Template}
 use Rattle.rules.specs.declared.templates.Template.TheVariants.{Existence, Absence, Exactly}
 use Rattle.rules.specs.Naming.{arguments_of}
 use Rattle.rules.specs.States.{row, counted, tabled, next_state, may_close, state_count, has_letter}
-use Rattle.rules.proofs.Every.{both, either, every_letter, letter_passes, every_below, below_passes, every_template, template_passes}
+use Rattle.rules.proofs.Every.{both, every_letter, letter_passes, every_below, below_passes, every_template, template_passes}
 use Rattle.rules.proofs.Walks.{counts, ByTable, by_table, before_or_past, not_below}
 
 -- The test over the whole table: a state is one of the template's, or moves to itself and may not close; and without a B the

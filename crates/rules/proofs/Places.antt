@@ -1,13 +1,13 @@
 -- What the tests of the rest of a word say, by places.
 -- Assumes nothing.
-use Rattle.std.proofs.Common.{◌≡◌, ℕ, zero, suc, ◌<◌, ◌≤◌, Bool, true, false, not, ◌&&◌, ◌||◌, [], ◌∷◌, length, ◌⊎◌, inl, inr, refl, ap, subst, arith, IsTrue, Some, None, slice_get, rules}
+use Rattle.std.proofs.Common.{◌≡◌, ℕ, zero, suc, ◌<◌, ◌≤◌, Bool, true, false, not, ◌&&◌, ◌||◌, [], ◌∷◌, length, ◌⊎◌, inl, inr, refl, ap, subst, arith, IsTrue, Some}
 use Rattle.std.specs.Bool.{beq, Decides, MatchBool}
 use Rattle.std.proofs.lemmas.Bool.Decides.{Decides-like, Decides-and, Decides-or, Decides-at}
 use Rattle.rules.specs.declared.letters.Letter.{Letter}
 use Rattle.rules.specs.declared.letters.Letter.TheVariants.{A, B, Other}
 use Rattle.rules.specs.declared.templates.Template.{Template}
-use Rattle.rules.specs.Word.{Word, StandsAt, Stands, StandsLater, StandsEarlier, NotBetween}
-use Rattle.rules.proofs.Ahead.{is_a, is_b, gap_after, gap_before, wanted, Ahead, preceded_from, preceded_in_front, nothing, in_front, ahead}
+use Rattle.rules.specs.Word.{Word, StandsAt, Stands}
+use Rattle.rules.proofs.Ahead.{is_a, is_b, gap_after, gap_before, wanted, preceded_from, preceded_in_front, ahead}
 
 -- A letter is A, or B.
 tells_a : (l : Letter) → Decides (is_a l) (Some l ≡ Some A)

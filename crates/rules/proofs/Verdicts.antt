@@ -1,6 +1,6 @@
 -- At its first state a template asks of a word just that it holds.
 -- Assumes nothing.
-use Rattle.std.proofs.Common.{◌≡◌, ℕ, zero, suc, ◌<◌, ◌≤◌, Bool, true, false, not, [], ◌∷◌, length, ◌⊎◌, ◌↔◌, inl, inr, refl, ap, arith, IsTrue, Some}
+use Rattle.std.proofs.Common.{◌≡◌, ℕ, suc, ◌<◌, ◌≤◌, Bool, true, false, not, ◌⊎◌, ◌↔◌, inl, inr, refl, arith}
 use Rattle.std.proofs.lemmas.Option.{slice_get_cases, slice_get_within}
 use Rattle.std.specs.Bool.{beq, Decides}
 use Rattle.std.proofs.lemmas.Bool.Decides.{Decides-like, Decides-and, Decides-or, Decides-not}
@@ -12,8 +12,8 @@ use Rattle.rules.specs.Word.{Word, StandsAt, Stands, StandsLater, StandsEarlier,
 use Rattle.rules.specs.declared.templates.Arguments.TheVariants.{CueAndCount}
 use Rattle.rules.specs.Template.{Holds, Responds, RespondsAlternately, RespondsDirectly, Precedes, PrecedesAlternately, PrecedesDirectly}
 use Rattle.rules.specs.Naming.{arguments_of}
-use Rattle.rules.proofs.Ahead.{is_a, is_b, gap_after, gap_before, wanted, Ahead, ahead, asks}
-use Rattle.rules.proofs.Places.{Only, NextB, Answer, Answered, Need, Preceded, Is, EndsWithA, tells_empty, tells_first, tells_last, tells_some, tells_next, tells_answered, tells_preceded}
+use Rattle.rules.proofs.Ahead.{is_a, is_b, ahead, asks}
+use Rattle.rules.proofs.Places.{Only, NextB, Answer, Answered, Need, Preceded, tells_empty, tells_first, tells_last, tells_some, tells_next, tells_answered, tells_preceded}
 
 -- The gaps, by name.
 abbrev any : Letter → Bool

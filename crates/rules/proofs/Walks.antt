@@ -1,6 +1,6 @@
 -- Walking the states and closing is the template's holding.
 -- Assumes nothing.
-use Rattle.std.proofs.Common.{◌≡◌, ℕ, zero, suc, ◌+◌, ◌*◌, ◌<◌, ◌≤◌, Bool, true, false, ◌&&◌, ◌||◌, [], ◌∷◌, ◌⊎◌, inl, inr, refl, sym, ◌∙◌, ap, arith, IsTrue, nat_lt, slice_index, min, fold, ◌==◌}
+use Rattle.std.proofs.Common.{◌≡◌, ℕ, zero, suc, ◌+◌, ◌<◌, ◌≤◌, Bool, true, false, ◌&&◌, ◌||◌, [], ◌∷◌, ◌⊎◌, inl, inr, refl, sym, ◌∙◌, ap, arith, IsTrue, nat_lt, slice_index, min, fold, ◌==◌}
 use Rattle.std.specs.Bool.{beq, Decides}
 use Rattle.std.proofs.lemmas.Bool.Decides.{Decides-at, nat_tests}
 use Rattle.rules.specs.declared.letters.Letter.{Letter}
@@ -8,8 +8,7 @@ use Rattle.rules.specs.declared.letters.Letter.TheVariants.{A, B, Other}
 use Rattle.rules.specs.declared.moves.TheConstants.{STATES}
 use Rattle.rules.specs.declared.templates.Template.{Template}
 use Rattle.rules.specs.declared.templates.Template.TheVariants.{Existence, Absence, Exactly}
-use Rattle.rules.specs.declared.templates.Arguments.{Arguments}
-use Rattle.rules.specs.declared.templates.Arguments.TheVariants.{CueAndCount, OneCue, TwoCues}
+use Rattle.rules.specs.declared.templates.Arguments.TheVariants.{CueAndCount}
 use Rattle.rules.specs.Template.{Holds}
 use Rattle.rules.specs.Naming.{arguments_of}
 use Rattle.rules.specs.Word.{Word, times_a}

@@ -9,7 +9,7 @@ use Rattle.rules.specs.declared.moves.TheConstants.{MOVES, CLOSING, STATES}
 use Rattle.rules.specs.declared.templates.Template.{Template}
 use Rattle.rules.specs.declared.templates.Template.TheVariants.{Existence, Absence, Exactly}
 use Rattle.rules.specs.declared.templates.Arguments.{Arguments}
-use Rattle.rules.specs.declared.templates.Arguments.TheVariants.{CueAndCount, OneCue, TwoCues}
+use Rattle.rules.specs.declared.templates.Arguments.TheVariants.{TwoCues}
 use Rattle.rules.specs.Template.{Holds}
 use Rattle.rules.specs.Naming.{template_number, arguments_of}
 use Rattle.rules.specs.Word.{Word}

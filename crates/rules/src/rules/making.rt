@@ -39,16 +39,28 @@ impl Rule {
     pub fn new(template: Template, a: u8, b: u8, n: u8) -> Result<Rule, RuleRefusal>
         ensures { Made result template a b n }
     {
-        let (b, n) = match template.arguments() {
-            Arguments::CueAndCount if n < 1 || n > MOST_TIMES => return Err(
-                RuleRefusal::CountOutside,
-            ),
-            Arguments::CueAndCount => (0, n),
-            Arguments::OneCue => (0, 0),
-            Arguments::TwoCues if a == b => return Err(RuleRefusal::SameCue),
-            Arguments::TwoCues => (b, 0),
-        };
-        Ok(Rule { template, a, b, n })
+        match template.arguments() {
+            Arguments::CueAndCount if n < 1 || n > MOST_TIMES => Err(RuleRefusal::CountOutside),
+            Arguments::CueAndCount => Ok(Rule {
+                template,
+                a,
+                b: 0,
+                n,
+            }),
+            Arguments::OneCue => Ok(Rule {
+                template,
+                a,
+                b: 0,
+                n: 0,
+            }),
+            Arguments::TwoCues if a == b => Err(RuleRefusal::SameCue),
+            Arguments::TwoCues => Ok(Rule {
+                template,
+                a,
+                b,
+                n: 0,
+            }),
+        }
     }
 
     /// The rule's template.

@@ -30,8 +30,7 @@ impl Rule {
         ensures are { StatesAre (terms self).template (terms self).n }
     {
         match self.template {
-            Template::Existence => self.n + 1,
-            Template::Absence => self.n + 1,
+            Template::Existence | Template::Absence => self.n + 1,
             Template::Exactly => self.n + 2,
             template => moves::states(template),
         }
@@ -56,9 +55,8 @@ impl Rule {
         ensures law { ClosesWhereItHolds (terms self) }
     {
         match self.template {
-            Template::Existence => state == self.n,
+            Template::Existence | Template::Exactly => state == self.n,
             Template::Absence => state < self.n,
-            Template::Exactly => state == self.n,
             template => moves::closes(template, state),
         }
     }

@@ -8,8 +8,5 @@ returns-in-Existence-clause-law c = closes_where_it_holds (terms c.args.self)
 pub returns-in-Absence-clause-law : goal.returns-in-Absence-clause-law
 returns-in-Absence-clause-law c = closes_where_it_holds (terms c.args.self)
 
-pub returns-in-Exactly-clause-law : goal.returns-in-Exactly-clause-law
-returns-in-Exactly-clause-law c = closes_where_it_holds (terms c.args.self)
-
 pub returns-in_default-clause-law : goal.returns-in_default-clause-law
 returns-in_default-clause-law c = closes_where_it_holds (terms c.args.self)
