@@ -7,6 +7,7 @@ use Rattle.rules.specs.declared.letters.Letter.TheVariants.{A, B, Other}
 use Rattle.rules.specs.declared.rules.Rule.{Rule}
 use Rattle.rules.specs.declared.rules.RuleRefusal.{RuleRefusal}
 use Rattle.rules.specs.declared.rules.RuleRefusal.TheVariants.{CountOutside, SameCue}
+use Rattle.rules.specs.declared.templates.Arguments.{Arguments}
 use Rattle.rules.specs.declared.templates.Arguments.TheVariants.{TwoCues}
 use Rattle.rules.specs.declared.templates.Template.{Template}
 use Rattle.rules.specs.Form.{CountRight, CuesRight, kept_b, kept_n}
@@ -29,14 +30,18 @@ terms r = record { template = r.template; a = r.a; b = r.b; n = r.n }
 abbrev pub kept : Template → ℕ → ℕ → ℕ → Terms
 kept t a b n = record { template = t; a = a; b = kept_b (arguments_of t) b; n = kept_n (arguments_of t) n }
 
--- Why terms are turned down: the first of the two that is wrong.
-abbrev pub TurnedDown : RuleRefusal → Template → ℕ → ℕ → ℕ → Type 0
-TurnedDown CountOutside t a b n = CountRight (arguments_of t) n → ⊥
-TurnedDown SameCue t a b n = CountRight (arguments_of t) n × (CuesRight (arguments_of t) a b → ⊥)
+-- Why arguments are turned down: the first of the two checks that fails.
+abbrev pub TurnedDown : RuleRefusal → Arguments → ℕ → ℕ → ℕ → Type 0
+TurnedDown CountOutside args a b n = CountRight args n → ⊥
+TurnedDown SameCue args a b n = CountRight args n × (CuesRight args a b → ⊥)
 
--- Making a rule: right terms are kept, or the first thing wrong is told.
+-- How arguments are answered: accepted when they are right, or else turned down.
+abbrev pub LookedOver : Result Unit RuleRefusal → Arguments → ℕ → ℕ → ℕ → Type 0
+LookedOver looked args a b n = MatchResult looked (λ _. CountRight args n × CuesRight args a b) (λ e. TurnedDown e args a b n)
+
+-- Making a rule: of right arguments, which are kept, or else they are turned down.
 abbrev pub Made : Result Rule RuleRefusal → Template → ℕ → ℕ → ℕ → Type 0
-Made made t a b n = MatchResult made (λ r. CountRight (arguments_of t) n × CuesRight (arguments_of t) a b × (terms r ≡ kept t a b n)) (λ e. TurnedDown e t a b n)
+Made made t a b n = MatchResult made (λ r. CountRight (arguments_of t) n × CuesRight (arguments_of t) a b × (terms r ≡ kept t a b n)) (λ e. TurnedDown e (arguments_of t) a b n)
 
 -- The published numbers of the refusals.
 abbrev pub refusal_number : RuleRefusal → ℕ

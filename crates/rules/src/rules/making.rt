@@ -1,6 +1,6 @@
 //! Making a rule, and what it is made of.
 ghost use Rattle.std.specs.Prelude.{◌≡◌, Some};
-ghost use Rattle.rules.specs.Rule.{Made, terms, refusal_number, refusal_words};
+ghost use Rattle.rules.specs.Rule.{LookedOver, Made, terms, refusal_number, refusal_words};
 ghost use Rattle.std.proofs.Common.{rules};
 
 use super::{Rule, RuleRefusal};
@@ -39,28 +39,13 @@ impl Rule {
     pub fn new(template: Template, a: u8, b: u8, n: u8) -> Result<Rule, RuleRefusal>
         ensures { Made result template a b n }
     {
-        match template.arguments() {
-            Arguments::CueAndCount if n < 1 || n > MOST_TIMES => Err(RuleRefusal::CountOutside),
-            Arguments::CueAndCount => Ok(Rule {
-                template,
-                a,
-                b: 0,
-                n,
-            }),
-            Arguments::OneCue => Ok(Rule {
-                template,
-                a,
-                b: 0,
-                n: 0,
-            }),
-            Arguments::TwoCues if a == b => Err(RuleRefusal::SameCue),
-            Arguments::TwoCues => Ok(Rule {
-                template,
-                a,
-                b,
-                n: 0,
-            }),
-        }
+        looked_over(template.arguments(), a, b, n)?;
+        let (b, n) = match template.arguments() {
+            Arguments::CueAndCount => (0, n),
+            Arguments::OneCue => (0, 0),
+            Arguments::TwoCues => (b, 0),
+        };
+        Ok(Rule { template, a, b, n })
     }
 
     /// The rule's template.
@@ -89,5 +74,16 @@ impl Rule {
         ensures { result ≡ (terms self).n }
     {
         self.n
+    }
+}
+
+// Looks arguments over before a rule is made of them.
+fn looked_over(arguments: Arguments, a: u8, b: u8, n: u8) -> Result<(), RuleRefusal>
+    ensures { LookedOver result arguments a b n }
+{
+    match arguments {
+        Arguments::CueAndCount if n < 1 || n > MOST_TIMES => Err(RuleRefusal::CountOutside),
+        Arguments::TwoCues if a == b => Err(RuleRefusal::SameCue),
+        _ => Ok(()),
     }
 }
