@@ -8,32 +8,39 @@ use Rattle.rules.specs.declared.templates.Template.{Template}
 use Rattle.rules.specs.declared.templates.Template.TheVariants.{Init, Last, RespondedExistence, CoExistence, Response, Precedence, Succession, AlternateResponse, AlternatePrecedence, AlternateSuccession, ChainResponse, ChainPrecedence, ChainSuccession, NotCoExistence, NotSuccession, NotChainSuccession, Choice, ExclusiveChoice}
 use Rattle.rules.specs.Word.{Word}
 
-abbrev pub is_a : Letter → Bool
-is_a A = true
-is_a l = false
+-- Gaps: which letters may stand between an A and a B.
+abbrev pub any : Letter → Bool
+any l = true
 
-abbrev pub is_b : Letter → Bool
-is_b B = true
-is_b l = false
+abbrev pub no_a : Letter → Bool
+no_a A = false
+no_a l = true
 
--- The letters that may stand between an A and the B that answers it.
+abbrev pub no_b : Letter → Bool
+no_b B = false
+no_b l = true
+
+abbrev pub none : Letter → Bool
+none l = false
+
+-- What may stand between an A and the B that answers it.
 abbrev pub gap_after : Template → Letter → Bool
-gap_after AlternateResponse l = not (is_a l)
-gap_after AlternateSuccession l = not (is_a l)
-gap_after ChainResponse l = false
-gap_after ChainSuccession l = false
-gap_after NotChainSuccession l = false
-gap_after t l = true
+gap_after AlternateResponse = no_a
+gap_after AlternateSuccession = no_a
+gap_after ChainResponse = none
+gap_after ChainSuccession = none
+gap_after NotChainSuccession = none
+gap_after t = any
 
--- The letters that may stand between a B and the A that it needs before it.
+-- What may stand between a B and the A that it needs before it.
 abbrev pub gap_before : Template → Letter → Bool
-gap_before AlternatePrecedence l = not (is_b l)
-gap_before AlternateSuccession l = not (is_b l)
-gap_before ChainPrecedence l = false
-gap_before ChainSuccession l = false
-gap_before t l = true
+gap_before AlternatePrecedence = no_b
+gap_before AlternateSuccession = no_b
+gap_before ChainPrecedence = none
+gap_before ChainSuccession = none
+gap_before t = any
 
--- Whether every A is to be answered, or none.
+-- Whether every A wants an answer, or none may have one.
 abbrev pub wanted : Template → Bool
 wanted NotSuccession = false
 wanted NotChainSuccession = false
@@ -45,11 +52,11 @@ pub record Ahead : Type 0 where
   pub a_first : Bool
   pub a_last : Bool
   pub some_a : Bool
-  -- a B stands with only letters of the gap before it
+  -- a B stands, with only letters of the gap in front of it
   pub b_next : Bool
-  -- every A is answered by such a B, or none is
+  -- every A is answered by such a B, or none is, as is wanted
   pub answered : Bool
-  -- every B has the A that it needs before it; or has it when an A stands in front of the rest
+  -- every B has the A that it needs before it; every B has, when an A stands in front of the rest
   pub preceded : Bool
   pub preceded_behind : Bool
 
@@ -57,21 +64,22 @@ abbrev pub preceded_from : Ahead → Bool → Bool
 preceded_from r true = r.preceded_behind
 preceded_from r false = r.preceded
 
+-- Nothing is left of the word.
 abbrev pub nothing : Ahead
 nothing = record { empty = true; a_first = false; a_last = false; some_a = false; b_next = false; answered = true; preceded = true; preceded_behind = true }
 
+-- One more letter stands in front. Whether an A stands before what follows is x in front of the letter, and changes behind it.
 abbrev pub preceded_in_front : Template → Letter → Ahead → Bool → Bool
-preceded_in_front t l r x = (not (is_b l) || x) && preceded_from r (is_a l || (x && gap_before t l))
+preceded_in_front t l r x = (no_b l || x) && preceded_from r (not (no_a l) || (x && gap_before t l))
 
--- What matters with one more letter in front.
 abbrev pub in_front : Template → Letter → Ahead → Ahead
 in_front t l r = record {
   empty = false;
-  a_first = is_a l;
-  a_last = (r.empty && is_a l) || r.a_last;
-  some_a = is_a l || r.some_a;
-  b_next = is_b l || (gap_after t l && r.b_next);
-  answered = (not (is_a l) || beq r.b_next (wanted t)) && r.answered;
+  a_first = not (no_a l);
+  a_last = (r.empty && not (no_a l)) || r.a_last;
+  some_a = not (no_a l) || r.some_a;
+  b_next = not (no_b l) || (gap_after t l && r.b_next);
+  answered = (no_a l || beq r.b_next (wanted t)) && r.answered;
   preceded = preceded_in_front t l r false;
   preceded_behind = preceded_in_front t l r true;
 }
@@ -88,24 +96,38 @@ by_state x y z u (suc (suc zero)) = z
 by_state x y z u (suc (suc (suc zero))) = u
 by_state x y z u (suc (suc (suc (suc n)))) = false
 
+-- What the states of the templates that speak of every A or of every B ask: at 0 nothing stands open; at 1 an A stands in front.
+abbrev answering : Ahead → ℕ → Bool
+answering r = by_state r.answered (r.answered && r.b_next) false false
+
+abbrev forbidding : Ahead → ℕ → Bool
+forbidding r = by_state r.answered (r.answered && not r.b_next) false false
+
+abbrev preceding : Ahead → ℕ → Bool
+preceding r = by_state r.preceded r.preceded_behind false false
+
+-- Both; and at the last state an A stands in front and is answered, for which the two stricter successions have their 0.
+abbrev succeeding : Ahead → Bool → ℕ → Bool
+succeeding r last = by_state (r.answered && r.preceded) (r.answered && r.b_next && r.preceded_behind) false last
+
 -- What each state of a template asks of the rest.
 abbrev pub asks : Template → Ahead → ℕ → Bool
 asks Init r = by_state (r.empty || r.a_first) true false false
 asks Last r = by_state (r.empty || r.a_last) r.a_last false false
 asks RespondedExistence r = by_state (not r.some_a || r.b_next) r.b_next true false
 asks CoExistence r = by_state (beq r.some_a r.b_next) r.b_next r.some_a true
-asks Response r = by_state r.answered (r.answered && r.b_next) false false
-asks AlternateResponse r = by_state r.answered (r.answered && r.b_next) false false
-asks ChainResponse r = by_state r.answered (r.answered && r.b_next) false false
-asks Precedence r = by_state r.preceded r.preceded_behind false false
-asks AlternatePrecedence r = by_state r.preceded r.preceded_behind false false
-asks ChainPrecedence r = by_state r.preceded r.preceded_behind false false
-asks Succession r = by_state (r.answered && r.preceded) (r.answered && r.b_next && r.preceded_behind) false (r.answered && r.preceded_behind)
-asks AlternateSuccession r = by_state (r.answered && r.preceded) (r.answered && r.b_next && r.preceded_behind) false false
-asks ChainSuccession r = by_state (r.answered && r.preceded) (r.answered && r.b_next && r.preceded_behind) false false
+asks Response r = answering r
+asks Precedence r = preceding r
+asks Succession r = succeeding r (r.answered && r.preceded_behind)
+asks AlternateResponse r = answering r
+asks AlternatePrecedence r = preceding r
+asks AlternateSuccession r = succeeding r false
+asks ChainResponse r = answering r
+asks ChainPrecedence r = preceding r
+asks ChainSuccession r = succeeding r false
 asks NotCoExistence r = by_state (not (r.some_a && r.b_next)) (not r.b_next) (not r.some_a) false
-asks NotSuccession r = by_state r.answered (r.answered && not r.b_next) false false
-asks NotChainSuccession r = by_state r.answered (r.answered && not r.b_next) false false
+asks NotSuccession r = forbidding r
+asks NotChainSuccession r = forbidding r
 asks Choice r = by_state (r.some_a || r.b_next) true false false
 asks ExclusiveChoice r = by_state (not (beq r.some_a r.b_next)) (not r.b_next) (not r.some_a) false
 asks t r = by_state false false false false

@@ -3,7 +3,7 @@
 use Rattle.std.proofs.Common.{◌≡◌, ℕ, suc, ◌<◌, ◌≤◌, Bool, true, false, not, ◌⊎◌, ◌↔◌, inl, inr, refl, arith}
 use Rattle.std.proofs.lemmas.Option.{slice_get_cases, slice_get_within}
 use Rattle.std.specs.Bool.{beq, Decides}
-use Rattle.std.proofs.lemmas.Bool.Decides.{Decides-like, Decides-and, Decides-or, Decides-not}
+use Rattle.std.proofs.lemmas.Bool.Decides.{Decides-and, Decides-or, Decides-not}
 use Rattle.rules.specs.declared.letters.Letter.{Letter}
 use Rattle.rules.specs.declared.letters.Letter.TheVariants.{A, B, Other}
 use Rattle.rules.specs.declared.templates.Template.{Template}
@@ -12,21 +12,8 @@ use Rattle.rules.specs.Word.{Word, StandsAt, Stands, StandsLater, StandsEarlier,
 use Rattle.rules.specs.declared.templates.Arguments.TheVariants.{CueAndCount}
 use Rattle.rules.specs.Template.{Holds, Responds, RespondsAlternately, RespondsDirectly, Precedes, PrecedesAlternately, PrecedesDirectly}
 use Rattle.rules.specs.Naming.{arguments_of}
-use Rattle.rules.proofs.Ahead.{is_a, is_b, ahead, asks}
-use Rattle.rules.proofs.Places.{Only, NextB, Answer, Answered, Need, Preceded, tells_empty, tells_first, tells_last, tells_some, tells_next, tells_answered, tells_preceded}
-
--- The gaps, by name.
-abbrev any : Letter → Bool
-any l = true
-
-abbrev no_a : Letter → Bool
-no_a l = not (is_a l)
-
-abbrev no_b : Letter → Bool
-no_b l = not (is_b l)
-
-abbrev none : Letter → Bool
-none l = false
+use Rattle.rules.proofs.Ahead.{any, no_a, no_b, none, ahead, asks}
+use Rattle.rules.proofs.Places.{Only, NextB, Answer, Answered, Need, Preceded, in_words, is_same, each_place, tells_empty, tells_first, tells_last, tells_some, tells_next, tells_answered, tells_preceded}
 
 -- No letter may stand in the gap: there is none.
 no_gap : (w : Word) (l : Letter) (i j : ℕ) → i ≤ j → StandsAt l w j → Only none w i j → j ≡ i
@@ -81,13 +68,6 @@ need_directly w i here = (directly, λ h. inl (h.0, omega (arith, h.1), h.2, λ 
     directly (inl (j, lt, e, o)) = (j, omega (arith, no_gap w B (suc j) i (omega arith) here o), e)
     directly (inr (h, o)) = absurd (cc h)
 
--- What is said of every place where a letter stands may be said in other words, or denied in them.
-each_place : {b : Bool} (l : Letter) (w : Word) (P Q : ℕ → Type 0) → ((i : ℕ) → StandsAt l w i → P i ↔ Q i) → Decides b ((i : ℕ) → StandsAt l w i → P i) → Decides b ((i : ℕ) → StandsAt l w i → Q i)
-each_place {b} l w P Q same = Decides-like b (λ h i e. (same i e).0 (h i e)) (λ h i e. (same i e).1 (h i e))
-
-denied : {P Q : Type 0} → P ↔ Q → (P → ⊥) ↔ (Q → ⊥)
-denied same = (λ h q. h (same.1 q), λ h p. h (same.0 p))
-
 -- Both or neither; exactly one.
 tells_alike : {P Q : Type 0} → (x y : Bool) → Decides x P → Decides y Q → Decides (beq x y) ((P × Q) ⊎ ((P → ⊥) × (Q → ⊥)))
 tells_alike x y p q = grind arith
@@ -98,7 +78,7 @@ tells_one x y p q = grind arith
 module _ (n : ℕ) (w : Word) where
   -- The tests of the rest, in a template's own words.
   some_b : {b : Bool} → Decides b (NextB any w) → Decides b (Stands B w)
-  some_b {b} = Decides-like b (λ h. (h.0, h.1)) (λ h. (h.0, h.1, λ k l above below e. refl))
+  some_b = in_words (λ h. (h.0, h.1), λ h. (h.0, h.1, λ k l above below e. refl))
 
   responds : {b : Bool} → Decides b (Answered true any w) → Decides b (Responds w)
   responds = each_place A w _ _ (λ i e. answer_later w i)
@@ -137,7 +117,7 @@ module _ (n : ℕ) (w : Word) where
   asks_that_it_holds ChainPrecedence _ = precedes_directly (tells_preceded ChainPrecedence w false)
   asks_that_it_holds ChainSuccession _ = Decides-and _ _ (responds_directly (tells_answered ChainSuccession w)) (precedes_directly (tells_preceded ChainSuccession w false))
   asks_that_it_holds NotCoExistence _ = Decides-not _ (Decides-and _ _ (tells_some NotCoExistence w) (some_b (tells_next NotCoExistence w)))
-  asks_that_it_holds NotSuccession _ = each_place A w _ _ (λ i e. denied (answer_later w i)) (tells_answered NotSuccession w)
-  asks_that_it_holds NotChainSuccession _ = each_place A w _ _ (λ i e. denied (answer_directly w i)) (tells_answered NotChainSuccession w)
+  asks_that_it_holds NotSuccession _ = each_place A w _ _ (λ i e. is_same false (answer_later w i)) (tells_answered NotSuccession w)
+  asks_that_it_holds NotChainSuccession _ = each_place A w _ _ (λ i e. is_same false (answer_directly w i)) (tells_answered NotChainSuccession w)
   asks_that_it_holds Choice _ = Decides-or _ _ (tells_some Choice w) (some_b (tells_next Choice w))
   asks_that_it_holds ExclusiveChoice _ = tells_one _ _ (tells_some ExclusiveChoice w) (some_b (tells_next ExclusiveChoice w))
