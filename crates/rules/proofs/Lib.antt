@@ -7,3 +7,4 @@ pub mod Walks
 pub mod Lacking
 pub mod Numbering
 pub mod Examples
+pub mod Seen

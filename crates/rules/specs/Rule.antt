@@ -1,6 +1,6 @@
 -- Rules: making one, the letters that cues are to it, and when it holds of a show.
 -- Assumes nothing.
-use Rattle.std.specs.Prelude.{◌≡◌, ℕ, Bool, ◌&&◌, ◌==◌, ◌↔◌, List, map, Result, MatchResult, codes, if◌then◌else◌, IsTrue}
+use Rattle.std.specs.Prelude.{◌≡◌, ℕ, Bool, ◌&&◌, ◌==◌, ◌↔◌, List, map, Some, slice_get, Result, MatchResult, codes, if◌then◌else◌, IsTrue}
 use Rattle.machine.specs.Show.{Show}
 use Rattle.rules.specs.declared.letters.Letter.{Letter}
 use Rattle.rules.specs.declared.letters.Letter.TheVariants.{A, B, Other}
@@ -11,7 +11,7 @@ use Rattle.rules.specs.declared.templates.Arguments.{Arguments}
 use Rattle.rules.specs.declared.templates.Arguments.TheVariants.{TwoCues}
 use Rattle.rules.specs.declared.templates.Template.{Template}
 use Rattle.rules.specs.Form.{CountRight, CuesRight, kept_b, kept_n}
-use Rattle.rules.specs.Word.{Word}
+use Rattle.rules.specs.Word.{Word, StandsAt}
 use Rattle.rules.specs.Template.{Holds}
 use Rattle.rules.specs.Naming.{arguments_of}
 use Rattle.rules.specs.States.{has_letter, next_state, may_close, state_count, led}
@@ -71,6 +71,12 @@ letter_of r c = if c == r.a then A else if has_letter (arguments_of r.template) 
 -- What a rule sees of a show, and when it holds of the show.
 abbrev pub word_of : Terms → Show → Word
 word_of r s = map (letter_of r) s
+
+-- Place by place: the word has A where the show has the rule's cue A, and B where the template takes a B and the show has
+-- that cue.
+pub record SeenByPlace (r : Terms) : Type 0 where
+  pub a : (s : Show) (i : ℕ) → StandsAt A (word_of r s) i ↔ (slice_get s i ≡ Some r.a)
+  pub b : (s : Show) (i : ℕ) → StandsAt B (word_of r s) i ↔ ((arguments_of r.template ≡ TwoCues) × (slice_get s i ≡ Some r.b))
 
 abbrev pub HoldsOf : Terms → Show → Type 0
 HoldsOf r s = Holds r.template r.n (word_of r s)

@@ -30,14 +30,17 @@ RespondsDirectly w = (i : ℕ) → StandsAt A w i → StandsAt B w (suc i)
 abbrev pub PrecedesDirectly : Word → Type 0
 PrecedesDirectly w = (i : ℕ) → StandsAt B w i → (j : ℕ) × (suc j ≡ i) × StandsAt A w j
 
--- When a template, with count n, holds of a word.
+-- When a template holds of a word. Only the first three look at the count n.
 abbrev pub Holds : Template → ℕ → Word → Type 0
--- A stands at least n times, fewer than n times, n times
+-- A stands at least n times
 Holds Existence n w = n ≤ times_a w
+-- A stands fewer than n times
 Holds Absence n w = times_a w < n
+-- A stands n times
 Holds Exactly n w = times_a w ≡ n
--- the show is empty, or begins with A; or ends with A
+-- the show is empty or begins with A
 Holds Init n w = (w ≡ []) ⊎ StandsAt A w 0
+-- the show is empty or ends with A
 Holds Last n w = (w ≡ []) ⊎ ((i : ℕ) × (suc i ≡ length w) × StandsAt A w i)
 -- no A stands, or some B does
 Holds RespondedExistence n w = (Stands A w → ⊥) ⊎ Stands B w

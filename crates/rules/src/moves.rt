@@ -7,9 +7,9 @@ use crate::letters::Letter;
 use crate::templates::Template;
 use machine::Numbered;
 
-/// The moves of templates 4 to 21: for each of the 18 templates, 4 states and 3 letters (A, B, other) the next state. A state
-/// that a template lacks moves to itself.
-pub const MOVES: [u8; 216] = [
+// The moves of templates 4 to 21: for each of the 18 templates, 4 states and 3 letters (A, B, other) the next state. A state
+// that a template lacks moves to itself.
+const MOVES: [u8; 216] = [
     1, 2, 2, 1, 1, 1, 2, 2, 2, 3, 3, 3, // init
     0, 1, 1, 0, 1, 1, 2, 2, 2, 3, 3, 3, // last
     1, 2, 0, 1, 2, 1, 2, 2, 2, 3, 3, 3, // responded-existence
@@ -30,8 +30,8 @@ pub const MOVES: [u8; 216] = [
     1, 2, 0, 1, 3, 1, 3, 2, 2, 3, 3, 3, // exclusive-choice
 ];
 
-/// Where a show may close, beside the moves: for each of the 18 templates and 4 states.
-pub const CLOSING: [bool; 72] = [
+// Where a show may close, beside the moves: for each of the 18 templates and 4 states.
+const CLOSING: [bool; 72] = [
     true, true, false, false, // init
     true, false, false, false, // last
     true, false, true, false, // responded-existence
@@ -52,8 +52,8 @@ pub const CLOSING: [bool; 72] = [
     false, true, true, false, // exclusive-choice
 ];
 
-/// How many states each of the 18 templates has.
-pub const STATES: [u8; 18] = [3, 2, 3, 4, 2, 3, 4, 3, 3, 3, 3, 3, 3, 4, 3, 3, 2, 4];
+// How many states each of the 18 templates has.
+const STATES: [u8; 18] = [3, 2, 3, 4, 2, 3, 4, 3, 3, 3, 3, 3, 3, 4, 3, 3, 2, 4];
 
 // Each template has a row with a place for each of 4 states.
 const PLACES: u8 = 4;

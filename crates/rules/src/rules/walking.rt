@@ -2,7 +2,7 @@
 ghost use Rattle.std.specs.Prelude.{◌≡◌, ◌↔◌, IsTrue};
 ghost use Rattle.rules.specs.States.{StatesAre};
 ghost use Rattle.rules.specs.Examples.{ExamplesAsTold};
-ghost use Rattle.rules.specs.Rule.{terms, letter_of, FallsUnder, states_of, step_of, closes_at, HoldsOf, ClosesWhereItHolds};
+ghost use Rattle.rules.specs.Rule.{terms, letter_of, FallsUnder, states_of, step_of, closes_at, SeenByPlace, HoldsOf, ClosesWhereItHolds};
 
 use super::Rule;
 use crate::letters::Letter;
@@ -24,7 +24,7 @@ impl Rule {
         }
     }
 
-    /// How many states the rule has.
+    /// How many states the rule has: those of its minimal automaton, numbered from 0 as shows first reach them.
     pub fn states(self) -> u8
         ensures value { result ≡ states_of (terms self) }
         ensures are { StatesAre (terms self).template (terms self).n }
@@ -64,6 +64,7 @@ impl Rule {
     /// Whether the rule holds of a show.
     pub fn holds(self, show: &[u8]) -> bool
         ensures value { IsTrue result ↔ HoldsOf (terms self) show.now }
+        ensures places { SeenByPlace (terms self) }
         ensures examples { ExamplesAsTold }
     {
         let state = show
