@@ -68,7 +68,7 @@ preceded_from r false = r.preceded
 abbrev pub nothing : Ahead
 nothing = record { empty = true; a_first = false; a_last = false; some_a = false; b_next = false; answered = true; preceded = true; preceded_behind = true }
 
--- One more letter stands in front. Whether an A stands before what follows is x in front of the letter, and changes behind it.
+-- With one more letter in front. An A may stand before that letter, as x tells; then the letter tells whether one stands behind it.
 abbrev pub preceded_in_front : Template → Letter → Ahead → Bool → Bool
 preceded_in_front t l r x = (no_b l || x) && preceded_from r (not (no_a l) || (x && gap_before t l))
 

@@ -1,11 +1,12 @@
 -- Tests over everything of a kind, for the checker to compute, and what a test that is passed tells.
 -- Assumes nothing.
-use Rattle.std.proofs.Common.{◌≡◌, ℕ, zero, suc, ◌-◌, ◌<◌, Bool, true, false, ◌&&◌, ◌||◌, List, [], ◌∷◌, refl, ◌⊎◌, inl, inr, arith, IsTrue, Some, slice_get}
+use Rattle.std.proofs.Common.{◌≡◌, ℕ, zero, suc, ◌-◌, ◌<◌, ◌≤◌, Bool, true, false, ◌&&◌, ◌||◌, List, [], ◌∷◌, refl, ◌⊎◌, inl, inr, arith, IsTrue, Some, slice_get}
 use Rattle.std.specs.List.{list_all, list_any}
 use Rattle.rules.specs.declared.letters.Letter.{Letter}
 use Rattle.rules.specs.declared.letters.Letter.TheVariants.{A, B, Other}
 use Rattle.rules.specs.declared.templates.Template.{Template}
 use Rattle.rules.specs.declared.templates.Template.TheVariants.{Existence, Absence, Exactly, Init, Last, RespondedExistence, CoExistence, Response, Precedence, Succession, AlternateResponse, AlternatePrecedence, AlternateSuccession, ChainResponse, ChainPrecedence, ChainSuccession, NotCoExistence, NotSuccession, NotChainSuccession, Choice, ExclusiveChoice}
+use Rattle.rules.specs.Form.{most}
 use Rattle.rules.specs.Naming.{template_number}
 use Rattle.rules.specs.Word.{Word}
 use Rattle.rules.proofs.Ahead.{Ahead}
@@ -45,27 +46,27 @@ below_passes (suc n) f h k lt =
 abbrev templates : List Template
 templates = Existence ∷ Absence ∷ Exactly ∷ Init ∷ Last ∷ RespondedExistence ∷ CoExistence ∷ Response ∷ Precedence ∷ Succession ∷ AlternateResponse ∷ AlternatePrecedence ∷ AlternateSuccession ∷ ChainResponse ∷ ChainPrecedence ∷ ChainSuccession ∷ NotCoExistence ∷ NotSuccession ∷ NotChainSuccession ∷ Choice ∷ ExclusiveChoice ∷ []
 
-stands_in_place : (t : Template) → slice_get templates (template_number t - 1) ≡ Some t
-stands_in_place Existence = refl
-stands_in_place t = refl
+listed : (t : Template) → slice_get templates (template_number t - 1) ≡ Some t
+listed Existence = refl
+listed t = refl
 
-place_passes : (f : Template → Bool) (ts : List Template) → IsTrue (list_all f ts) → (i : ℕ) (t : Template) → slice_get ts i ≡ Some t → IsTrue (f t)
-place_passes f [] h i t is = cc
-place_passes f (u ∷ ts) h zero t is = let e : u ≡ t = cc in rw (← e) (both _ _ h).0
-place_passes f (u ∷ ts) h (suc i) t is = place_passes f ts (both _ _ h).1 i t is
+listed_passes : (f : Template → Bool) (ts : List Template) → IsTrue (list_all f ts) → (i : ℕ) (t : Template) → slice_get ts i ≡ Some t → IsTrue (f t)
+listed_passes f [] h i t is = cc
+listed_passes f (u ∷ ts) h zero t is = let e : u ≡ t = cc in rw (← e) (both _ _ h).0
+listed_passes f (u ∷ ts) h (suc i) t is = listed_passes f ts (both _ _ h).1 i t is
 
 abbrev pub every_template : (Template → Bool) → Bool
 every_template f = list_all f templates
 
 pub template_passes : (f : Template → Bool) → IsTrue (every_template f) → (t : Template) → IsTrue (f t)
-template_passes f h t = place_passes f templates h (template_number t - 1) t (stands_in_place t)
+template_passes f h t = listed_passes f templates h (template_number t - 1) t (listed t)
 
 -- Every template with every count up to the most.
 abbrev pub every_rule : (Template → ℕ → Bool) → Bool
-every_rule f = every_template (λ t. every_below 15 (f t))
+every_rule f = every_template (λ t. every_below (suc most) (f t))
 
-pub rule_passes : (f : Template → ℕ → Bool) → IsTrue (every_rule f) → (t : Template) (n : ℕ) → n < 15 → IsTrue (f t n)
-rule_passes f h t n lt = below_passes 15 (f t) (template_passes (λ t. every_below 15 (f t)) h t) n lt
+pub rule_passes : (f : Template → ℕ → Bool) → IsTrue (every_rule f) → (t : Template) (n : ℕ) → n ≤ most → IsTrue (f t n)
+rule_passes f h t n le = below_passes (suc most) (f t) (template_passes (λ t. every_below (suc most) (f t)) h t) n (omega arith)
 
 -- Some letter; some number below another; some word of a list.
 pub either : (x y : Bool) → IsTrue (x || y) → IsTrue x ⊎ IsTrue y

@@ -23,7 +23,7 @@ tells_if true y p q = (λ _ h. absurd (cc (p.1 h)), λ _. refl)
 tells_if false true p q = (λ _ _. q.0 refl, λ _. refl)
 tells_if false false p q = (λ h. cc, λ f. absurd (cc (q.1 (f (p.0 refl)))))
 
-abbrev pub Is : Bool → Type 0 → Type 0
+abbrev Is : Bool → Type 0 → Type 0
 Is y P = MatchBool y P (P → ⊥)
 
 pub tells_is : {P : Type 0} → (x y : Bool) → Decides x P → Decides (beq x y) (Is y P)

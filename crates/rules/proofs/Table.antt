@@ -8,13 +8,14 @@ use Rattle.rules.specs.declared.letters.Letter.TheVariants.{B, Other}
 use Rattle.rules.specs.declared.moves.TheConstants.{STATES}
 use Rattle.rules.specs.declared.templates.Template.{Template}
 use Rattle.rules.specs.declared.templates.Template.TheVariants.{Existence, Absence, Exactly}
+use Rattle.rules.specs.declared.templates.Arguments.{Arguments}
 use Rattle.rules.specs.declared.templates.Arguments.TheVariants.{CueAndCount}
 use Rattle.rules.specs.Naming.{arguments_of}
 use Rattle.rules.specs.States.{row, tabled, table_closes, next_state, may_close, state_count, has_letter}
 use Rattle.rules.proofs.Ahead.{Ahead, nothing, in_front, by_state, asks}
 use Rattle.rules.proofs.Every.{both, every_letter, letter_passes, every_below, below_passes, every_template, template_passes, every_rest, rest_passes}
 
--- The test of one place of the table. A show may close there where the state asks nothing of what comes.
+-- The test of one slot of the table. A show may close there exactly where an empty rest has what the state asks.
 abbrev closing_right : Template → ℕ → Bool
 closing_right t s = beq (table_closes (row t) s) (asks t nothing s)
 
@@ -33,41 +34,39 @@ kept_right t s = nat_lt s (slice_index STATES (row t)) || (not (table_closes (ro
 abbrev repeat_right : Template → ℕ → Bool
 repeat_right t s = has_letter (arguments_of t) B || (tabled (row t) s B == tabled (row t) s Other)
 
-abbrev place_right : Template → ℕ → Bool
-place_right t s = (closing_right t s && every_letter (moves_right t s)) && (kept_right t s && repeat_right t s)
+abbrev slot_right : Template → ℕ → Bool
+slot_right t s = (closing_right t s && every_letter (moves_right t s)) && (kept_right t s && repeat_right t s)
 
-record PlaceRight (t : Template) (s : ℕ) : Type 0 where
+record SlotRight (t : Template) (s : ℕ) : Type 0 where
   closing : IsTrue (closing_right t s)
   moves : IsTrue (every_letter (moves_right t s))
   kept : IsTrue (kept_right t s)
   repeated : IsTrue (repeat_right t s)
 
-at_place : (t : Template) (s : ℕ) → IsTrue (place_right t s) → PlaceRight t s
-at_place t s h =
+at_slot : (t : Template) (s : ℕ) → IsTrue (slot_right t s) → SlotRight t s
+at_slot t s h =
     let parts = both (closing_right t s && every_letter (moves_right t s)) (kept_right t s && repeat_right t s) h in
     let walk = both (closing_right t s) (every_letter (moves_right t s)) parts.0 in
     let rest = both (kept_right t s) (repeat_right t s) parts.1 in
     record { closing = walk.0; moves = walk.1; kept = rest.0; repeated = rest.1 }
 
-abbrev counts : Template → Bool
-counts Existence = true
-counts Absence = true
-counts Exactly = true
-counts t = false
+abbrev counts : Arguments → Bool
+counts CueAndCount = true
+counts args = false
 
 abbrev template_right : Template → Bool
-template_right t = counts t || every_below 4 (place_right t)
+template_right t = counts (arguments_of t) || every_below 4 (slot_right t)
 
 table_right : IsTrue (every_template template_right)
 table_right = refl
 
 -- A template without a count moves and closes by the table, whatever the count.
 pub record ByTable (t : Template) (n : ℕ) : Type 0 where
-  pub without : counts t ≡ false
+  pub without : counts (arguments_of t) ≡ false
   pub moves : (s : ℕ) (l : Letter) → next_state t n s l ≡ tabled (row t) s l
   pub closes : (s : ℕ) → may_close t n s ≡ table_closes (row t) s
   pub states : state_count t n ≡ slice_index STATES (row t)
-  -- past the four places a state asks what no rest has
+  -- past the four slots a state asks what no rest has
   pub past : (s : ℕ) (r : Ahead) → 4 ≤ s → asks t r s ≡ false
 
 asked_past : (x y z u : Bool) (s : ℕ) → 4 ≤ s → by_state x y z u s ≡ false
@@ -92,14 +91,14 @@ same false false h = refl
 within_or_past : (s : ℕ) → (s < 4) ⊎ (4 ≤ s)
 within_or_past s = grind arith
 
-pub not_lower : (s k : ℕ) → k ≤ s → nat_lt s k ≡ false
+not_lower : (s k : ℕ) → k ≤ s → nat_lt s k ≡ false
 not_lower s k le = grind (arith, nat_tests)
 
 module _ (t : Template) (n : ℕ) (table : ByTable t n) where
-  right : (s : ℕ) → s < 4 → PlaceRight t s
-  right s within = let passed : IsTrue (template_right t) = template_passes template_right table_right t in at_place t s (below_passes 4 (place_right t) (rw table.without at passed) s within)
+  right : (s : ℕ) → s < 4 → SlotRight t s
+  right s within = let passed : IsTrue (template_right t) = template_passes template_right table_right t in at_slot t s (below_passes 4 (slot_right t) (rw table.without at passed) s within)
 
-  -- Past the four places a state moves to itself and may not close.
+  -- Past the four slots a state moves to itself and may not close.
   past_stays : (s : ℕ) (l : Letter) → 4 ≤ s → next_state t n s l ≡ s
   past_stays s l past = table.moves s l ∙ rw (not_lower s 4 past) refl
 

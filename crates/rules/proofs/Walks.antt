@@ -16,7 +16,7 @@ use Rattle.rules.proofs.Ahead.{ahead, asks}
 use Rattle.rules.proofs.Table.{ByTable, by_table, closed_as_asked, moved_as_asked}
 use Rattle.rules.proofs.Verdicts.{asks_that_it_holds}
 
--- Where a word leads from a state, a show may close exactly when the state asks what the word has.
+-- Where a word leads from a state, a show may close exactly when the word has what the state asks.
 module _ (t : Template) (n : ℕ) (table : ByTable t n) where
   walked : (s : ℕ) (w : Word) → may_close t n (led t n s w) ≡ asks t (ahead t w) s
   walked s [] = closed_as_asked t n table s

@@ -4,9 +4,13 @@ use Rattle.std.specs.Prelude.{◌≡◌, ℕ, ◌≤◌}
 use Rattle.rules.specs.declared.templates.Arguments.{Arguments}
 use Rattle.rules.specs.declared.templates.Arguments.TheVariants.{CueAndCount, OneCue, TwoCues}
 
+-- The most that a count may be. One more, and exactly n would have more than 16 states.
+abbrev pub most : ℕ
+most = 14
+
 -- A count is 1 to 14; two cues are different.
 abbrev pub CountRight : Arguments → ℕ → Type 0
-CountRight args n = args ≡ CueAndCount → (1 ≤ n) × (n ≤ 14)
+CountRight args n = args ≡ CueAndCount → (1 ≤ n) × (n ≤ most)
 
 abbrev pub CuesRight : Arguments → ℕ → ℕ → Type 0
 CuesRight args a b = args ≡ TwoCues → a ≡ b → ⊥
@@ -22,7 +26,7 @@ kept_n CueAndCount n = n
 kept_n OneCue n = 0
 kept_n TwoCues n = 0
 
--- What every rule keeps of its arguments.
+-- What is so of every rule's arguments.
 pub record InForm (args : Arguments) (a b n : ℕ) : Type 0 where
   pub count : CountRight args n
   pub cues : CuesRight args a b

@@ -1,6 +1,6 @@
 -- Rules: making one, the letters that cues are to it, and when it holds of a show.
 -- Assumes nothing.
-use Rattle.std.specs.Prelude.{◌≡◌, ℕ, Bool, ◌&&◌, ◌==◌, ◌↔◌, List, map, Some, slice_get, Result, MatchResult, codes, if◌then◌else◌, IsTrue}
+use Rattle.std.specs.Prelude.{◌≡◌, ℕ, Bool, ◌&&◌, ◌==◌, ◌↔◌, List, length, map, count_by, Some, slice_get, Result, MatchResult, codes, if◌then◌else◌, IsTrue}
 use Rattle.machine.specs.Show.{Show}
 use Rattle.rules.specs.declared.letters.Letter.{Letter}
 use Rattle.rules.specs.declared.letters.Letter.TheVariants.{A, B, Other}
@@ -11,7 +11,7 @@ use Rattle.rules.specs.declared.templates.Arguments.{Arguments}
 use Rattle.rules.specs.declared.templates.Arguments.TheVariants.{TwoCues}
 use Rattle.rules.specs.declared.templates.Template.{Template}
 use Rattle.rules.specs.Form.{CountRight, CuesRight, kept_b, kept_n}
-use Rattle.rules.specs.Word.{Word, StandsAt}
+use Rattle.rules.specs.Word.{Word, StandsAt, times_a}
 use Rattle.rules.specs.Template.{Holds}
 use Rattle.rules.specs.Naming.{arguments_of}
 use Rattle.rules.specs.States.{has_letter, next_state, may_close, state_count, led}
@@ -30,16 +30,16 @@ terms r = record { template = r.template; a = r.a; b = r.b; n = r.n }
 abbrev pub kept : Template → ℕ → ℕ → ℕ → Terms
 kept t a b n = record { template = t; a = a; b = kept_b (arguments_of t) b; n = kept_n (arguments_of t) n }
 
--- Why arguments are turned down: the first of the two checks that fails.
+-- Why arguments are turned down: no template takes both a count and two cues, so one check at most fails.
 abbrev pub TurnedDown : RuleRefusal → Arguments → ℕ → ℕ → ℕ → Type 0
 TurnedDown CountOutside args a b n = CountRight args n → ⊥
-TurnedDown SameCue args a b n = CountRight args n × (CuesRight args a b → ⊥)
+TurnedDown SameCue args a b n = CuesRight args a b → ⊥
 
 -- How arguments are answered: accepted when they are right, or else turned down.
 abbrev pub LookedOver : Result Unit RuleRefusal → Arguments → ℕ → ℕ → ℕ → Type 0
 LookedOver looked args a b n = MatchResult looked (λ _. CountRight args n × CuesRight args a b) (λ e. TurnedDown e args a b n)
 
--- Making a rule: of right arguments, which are kept, or else they are turned down.
+-- Making a rule: right arguments are kept, and others are turned down.
 abbrev pub Made : Result Rule RuleRefusal → Template → ℕ → ℕ → ℕ → Type 0
 Made made t a b n = MatchResult made (λ r. CountRight (arguments_of t) n × CuesRight (arguments_of t) a b × (terms r ≡ kept t a b n)) (λ e. TurnedDown e (arguments_of t) a b n)
 
@@ -68,16 +68,19 @@ FallsUnder r c Other = (IsA r c → ⊥) × (IsB r c → ⊥)
 abbrev pub letter_of : Terms → ℕ → Letter
 letter_of r c = if c == r.a then A else if has_letter (arguments_of r.template) B && c == r.b then B else Other
 
--- What a rule sees of a show, and when it holds of the show.
+-- What a rule sees of a show.
 abbrev pub word_of : Terms → Show → Word
 word_of r s = map (letter_of r) s
 
--- Place by place: the word has A where the show has the rule's cue A, and B where the template takes a B and the show has
--- that cue.
+-- The word is as long as the show. Place by place it has A exactly where the show has the rule's cue A, and B exactly where the
+-- template takes a B and the show has that cue. A stands in it as often as that cue in the show.
 pub record SeenByPlace (r : Terms) : Type 0 where
+  pub long : (s : Show) → length (word_of r s) ≡ length s
   pub a : (s : Show) (i : ℕ) → StandsAt A (word_of r s) i ↔ (slice_get s i ≡ Some r.a)
   pub b : (s : Show) (i : ℕ) → StandsAt B (word_of r s) i ↔ ((arguments_of r.template ≡ TwoCues) × (slice_get s i ≡ Some r.b))
+  pub times : (s : Show) → times_a (word_of r s) ≡ count_by (λ c. c == r.a) s
 
+-- A rule holds of a show when its template holds of the show's word.
 abbrev pub HoldsOf : Terms → Show → Type 0
 HoldsOf r s = Holds r.template r.n (word_of r s)
 

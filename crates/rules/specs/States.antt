@@ -14,26 +14,30 @@ use Rattle.rules.specs.Template.{Holds}
 use Rattle.rules.specs.Naming.{template_number, arguments_of}
 use Rattle.rules.specs.Word.{Word}
 
--- The letters' places: A before B before other.
-abbrev pub place_of : Letter → ℕ
-place_of A = 0
-place_of B = 1
-place_of Other = 2
+-- The order of letters: A before B before other.
+abbrev pub letter_number : Letter → ℕ
+letter_number A = 0
+letter_number B = 1
+letter_number Other = 2
 
 -- A counting rule counts the times of A up to the most that it tells apart.
 abbrev pub counted : ℕ → ℕ → Letter → ℕ
 counted most s A = if nat_lt s most then s + 1 else s
 counted most s l = s
 
--- A rule without a count moves by the table, in which its template has a row of 4 states.
+-- A rule without a count moves and closes by the table, in which its template has a row with a slot for each of 4 states, and
+-- each slot has a move for each letter.
 abbrev pub row : Template → ℕ
 row t = template_number t - 4
 
+abbrev pub slot : ℕ → ℕ → ℕ
+slot r s = r * 4 + s
+
 abbrev pub tabled : ℕ → ℕ → Letter → ℕ
-tabled r s l = if nat_lt s 4 then slice_index MOVES (r * 12 + s * 3 + place_of l) else s
+tabled r s l = if nat_lt s 4 then slice_index MOVES (slot r s * 3 + letter_number l) else s
 
 abbrev pub table_closes : ℕ → ℕ → Bool
-table_closes r s = nat_lt s 4 && slice_index_or CLOSING (r * 4 + s) false
+table_closes r s = nat_lt s 4 && slice_index_or CLOSING (slot r s) false
 
 -- The next state for a rule with count n at state s.
 abbrev pub next_state : Template → ℕ → ℕ → Letter → ℕ
@@ -72,13 +76,14 @@ OverItsLetters t w = IsTrue (list_all (has_letter (arguments_of t)) w)
 
 -- Show order of words, A before B before other.
 abbrev pub EarlierWord : Word → Word → Type 0
-EarlierWord v w = Earlier (map place_of v) (map place_of w)
+EarlierWord v w = Earlier (map letter_number v) (map letter_number w)
 
 -- No continuation divides two words for a rule.
 abbrev pub Undivided : Template → ℕ → Word → Word → Type 0
 Undivided t n u v = (w : Word) → OverItsLetters t w → Holds t n (u ++ w) ↔ Holds t n (v ++ w)
 
--- A word over the rule's letters leads to a state; some such word does; some such word does that is earlier than another.
+-- A word over the rule's letters leads to a state. A state is reached when some such word leads there, and reached before a word
+-- when an earlier one does.
 abbrev pub LeadsTo : Template → ℕ → ℕ → Word → Type 0
 LeadsTo t n s v = OverItsLetters t v × (led t n 0 v ≡ s)
 

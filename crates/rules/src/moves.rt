@@ -1,7 +1,7 @@
 //! The states of the templates without a count, as constants, and reading them.
 ghost use Rattle.std.specs.Prelude.{◌≡◌, ◌≤◌, slice_index};
 ghost use Rattle.rules.specs.Naming.{template_number};
-ghost use Rattle.rules.specs.States.{row, tabled, table_closes};
+ghost use Rattle.rules.specs.States.{row, slot, tabled, table_closes};
 
 use crate::letters::Letter;
 use crate::templates::Template;
@@ -53,10 +53,31 @@ const CLOSING: [bool; 72] = [
 ];
 
 // How many states each of the 18 templates has.
-const STATES: [u8; 18] = [3, 2, 3, 4, 2, 3, 4, 3, 3, 3, 3, 3, 3, 4, 3, 3, 2, 4];
+const STATES: [u8; 18] = [
+    3, // init
+    2, // last
+    3, // responded-existence
+    4, // co-existence
+    2, // response
+    3, // precedence
+    4, // succession
+    3, // alternate-response
+    3, // alternate-precedence
+    3, // alternate-succession
+    3, // chain-response
+    3, // chain-precedence
+    3, // chain-succession
+    4, // not-co-existence
+    3, // not-succession
+    3, // not-chain-succession
+    2, // choice
+    4, // exclusive-choice
+];
 
-// Each template has a row with a place for each of 4 states.
-const PLACES: u8 = 4;
+// Each template has a slot for each of 4 states, and in the moves each slot has an entry for each of 3 letters.
+const SLOTS: u8 = 4;
+
+const LETTERS: usize = 3;
 
 // The row of a template.
 fn row(template: Template) -> usize
@@ -64,6 +85,14 @@ fn row(template: Template) -> usize
     ensures { result ≡ row template }
 {
     usize::from(template.number() - 4)
+}
+
+// The slot of a state of a template.
+fn slot(template: Template, state: u8) -> usize
+    requires { 4 ≤ template_number template }
+    ensures { result ≡ slot (row template) state }
+{
+    row(template) * usize::from(SLOTS) + usize::from(state)
 }
 
 /// How many states the template has.
@@ -79,10 +108,10 @@ pub(crate) fn step(template: Template, state: u8, letter: Letter) -> u8
     requires { 4 ≤ template_number template }
     ensures { result ≡ tabled (row template) state letter }
 {
-    if state >= PLACES {
+    if state >= SLOTS {
         return state;
     }
-    MOVES[row(template) * 12 + usize::from(state) * 3 + letter as usize]
+    MOVES[slot(template, state) * LETTERS + letter as usize]
 }
 
 /// Whether a show may close at the state.
@@ -90,5 +119,5 @@ pub(crate) fn closes(template: Template, state: u8) -> bool
     requires { 4 ≤ template_number template }
     ensures { result ≡ table_closes (row template) state }
 {
-    state < PLACES && CLOSING[row(template) * 4 + usize::from(state)]
+    state < SLOTS && CLOSING[slot(template, state)]
 }
