@@ -50,7 +50,7 @@ pub enum Template {
     ExclusiveChoice = 21,
 }
 
-/// Which arguments a template takes. One that it lacks is kept as 0 and not looked at.
+/// Which arguments (parameters) a template takes.
 #[derive(Clone, Copy, Debug, PartialEq, Eq, Hash)]
 pub enum Arguments {
     /// A cue A and a count n.

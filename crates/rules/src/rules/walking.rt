@@ -36,7 +36,7 @@ impl Rule {
         }
     }
 
-    /// The state to which a letter leads from a state. A state that the rule lacks leads to itself.
+    /// The state to which a letter leads from a state (the transition function). A state that the rule lacks leads to itself.
     pub fn step(self, state: u8, letter: Letter) -> u8
         ensures { result ≡ step_of (terms self) state letter }
     {
@@ -49,7 +49,8 @@ impl Rule {
         }
     }
 
-    /// Whether a show may close at a state: the rule holds of the shows that lead there. At a state that the rule lacks none may.
+    /// Whether a show may close at a state (whether it is accepting): the rule holds of the shows that lead there. At a state that
+    /// the rule lacks none may.
     pub fn closes(self, state: u8) -> bool
         ensures value { result ≡ closes_at (terms self) state }
         ensures law { ClosesWhereItHolds (terms self) }
