@@ -5,6 +5,7 @@ pub mod Every
 pub mod Table
 pub mod Walks
 pub mod Lacking
+pub mod OneNumbering
 pub mod Numbering
 pub mod Examples
 pub mod Seen

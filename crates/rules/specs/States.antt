@@ -82,26 +82,24 @@ EarlierWord v w = Earlier (map letter_number v) (map letter_number w)
 abbrev pub Undivided : Template → ℕ → Word → Word → Type 0
 Undivided t n u v = (w : Word) → OverItsLetters t w → Holds t n (u ++ w) ↔ Holds t n (v ++ w)
 
--- A word over the rule's letters leads to a state. A state is reached when some such word leads there, and reached before a word
--- when an earlier one does.
-abbrev pub LeadsTo : Template → ℕ → ℕ → Word → Type 0
-LeadsTo t n s v = OverItsLetters t v × (led t n 0 v ≡ s)
+-- A word over the rule's letters has a number.
+abbrev pub HasNumber : Template → (Word → ℕ) → Word → ℕ → Type 0
+HasNumber t number v s = OverItsLetters t v × (number v ≡ s)
 
-abbrev pub Reached : Template → ℕ → ℕ → Type 0
-Reached t n s = (v : Word) × LeadsTo t n s v
-
-abbrev pub ReachedBefore : Template → ℕ → Word → ℕ → Type 0
-ReachedBefore t n w s = (v : Word) × LeadsTo t n s v × EarlierWord v w
+-- A way to number words, for a rule with count n: two have one number exactly when no continuation divides them, and numbers are
+-- given as words first reach them, so that a lower one is reached earlier.
+pub record Numbers (t : Template) (n : ℕ) (number : Word → ℕ) : Type 0 where
+  pub told_apart : (u v : Word) → (number u ≡ number v) ↔ Undivided t n u v
+  pub by_first_reach : (w : Word) (s : ℕ) → OverItsLetters t w → s < number w → (v : Word) × HasNumber t number v s × EarlierWord v w
 
 -- What the states of a rule with count n are.
 pub record StatesAre (t : Template) (n : ℕ) : Type 0 where
-  -- two words lead to one state exactly when no continuation divides them
-  pub told_apart : (u v : Word) → (led t n 0 u ≡ led t n 0 v) ↔ Undivided t n u v
+  -- a word's number is the state to which it leads, and there is no other way to number words
+  pub numbered : Numbers t n (led t n 0)
+  pub only : (number : Word → ℕ) → Numbers t n number → (w : Word) → OverItsLetters t w → number w ≡ led t n 0 w
   -- every word leads to a state of the rule, and every state of the rule is reached
   pub within : (w : Word) → led t n 0 w < state_count t n
-  pub reached : (s : ℕ) → s < state_count t n → Reached t n s
-  -- states are numbered as words first reach them: a lower one is reached earlier
-  pub numbered : (w : Word) (s : ℕ) → OverItsLetters t w → s < led t n 0 w → ReachedBefore t n w s
+  pub reached : (s : ℕ) → s < state_count t n → (v : Word) × HasNumber t (led t n 0) v s
   pub few : state_count t n ≤ 16
   -- a state that the rule lacks moves to itself and may not close
   pub stays : (s : ℕ) (l : Letter) → state_count t n ≤ s → next_state t n s l ≡ s
