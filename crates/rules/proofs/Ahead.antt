@@ -1,6 +1,6 @@
 -- What matters of the rest of a word to a template without a count, and what each of its states asks of it.
 -- Assumes nothing.
-use Rattle.std.proofs.Common.{ℕ, zero, suc, Bool, true, false, not, ◌&&◌, ◌||◌, [], ◌∷◌}
+use Rattle.std.proofs.Common.{ℕ, Bool, true, false, not, ◌&&◌, ◌||◌, List, [], ◌∷◌, ◌++◌, slice_index_or}
 use Rattle.std.specs.Bool.{beq}
 use Rattle.rules.specs.declared.letters.Letter.{Letter}
 use Rattle.rules.specs.declared.letters.Letter.TheVariants.{A, B}
@@ -88,46 +88,42 @@ abbrev pub ahead : Template → Word → Ahead
 ahead t [] = nothing
 ahead t (l ∷ w) = in_front t l (ahead t w)
 
--- One test for each of the four states; a state beyond them asks what no rest has.
-abbrev pub by_state : Bool → Bool → Bool → Bool → ℕ → Bool
-by_state x y z u zero = x
-by_state x y z u (suc zero) = y
-by_state x y z u (suc (suc zero)) = z
-by_state x y z u (suc (suc (suc zero))) = u
-by_state x y z u (suc (suc (suc (suc n)))) = false
-
 -- What the states of the templates that speak of every A or of every B ask: at 0 nothing stands open; at 1 an A stands in front.
-abbrev answering : Ahead → ℕ → Bool
-answering r = by_state r.answered (r.answered && r.b_next) false false
+abbrev answering : Ahead → List Bool
+answering r = r.answered ∷ (r.answered && r.b_next) ∷ []
 
-abbrev forbidding : Ahead → ℕ → Bool
-forbidding r = by_state r.answered (r.answered && not r.b_next) false false
+abbrev forbidding : Ahead → List Bool
+forbidding r = r.answered ∷ (r.answered && not r.b_next) ∷ []
 
-abbrev preceding : Ahead → ℕ → Bool
-preceding r = by_state r.preceded r.preceded_behind false false
+abbrev preceding : Ahead → List Bool
+preceding r = r.preceded ∷ r.preceded_behind ∷ []
 
--- Both; and at the last state an A stands in front and is answered, for which the two stricter successions have their 0.
-abbrev succeeding : Ahead → Bool → ℕ → Bool
-succeeding r last = by_state (r.answered && r.preceded) (r.answered && r.b_next && r.preceded_behind) false last
+abbrev succeeding : Ahead → List Bool
+succeeding r = (r.answered && r.preceded) ∷ (r.answered && r.b_next && r.preceded_behind) ∷ []
 
--- What each state of a template asks of the rest.
-abbrev pub asks : Template → Ahead → ℕ → Bool
-asks Init r = by_state (r.empty || r.a_first) true false false
-asks Last r = by_state (r.empty || r.a_last) r.a_last false false
-asks RespondedExistence r = by_state (not r.some_a || r.b_next) r.b_next true false
-asks CoExistence r = by_state (beq r.some_a r.b_next) r.b_next r.some_a true
+-- What each state of a template asks of the rest, one after the other.
+abbrev pub asks : Template → Ahead → List Bool
+asks Init r = (r.empty || r.a_first) ∷ true ∷ []
+asks Last r = (r.empty || r.a_last) ∷ r.a_last ∷ []
+asks RespondedExistence r = (not r.some_a || r.b_next) ∷ r.b_next ∷ true ∷ []
+asks CoExistence r = beq r.some_a r.b_next ∷ r.b_next ∷ r.some_a ∷ true ∷ []
 asks Response r = answering r
 asks Precedence r = preceding r
-asks Succession r = succeeding r (r.answered && r.preceded_behind)
+-- at 2 a B came too early; at 3 an A stands in front, and none stands open
+asks Succession r = succeeding r ++ false ∷ (r.answered && r.preceded_behind) ∷ []
 asks AlternateResponse r = answering r
 asks AlternatePrecedence r = preceding r
-asks AlternateSuccession r = succeeding r false
+asks AlternateSuccession r = succeeding r
 asks ChainResponse r = answering r
 asks ChainPrecedence r = preceding r
-asks ChainSuccession r = succeeding r false
-asks NotCoExistence r = by_state (not (r.some_a && r.b_next)) (not r.b_next) (not r.some_a) false
+asks ChainSuccession r = succeeding r
+asks NotCoExistence r = not (r.some_a && r.b_next) ∷ not r.b_next ∷ not r.some_a ∷ []
 asks NotSuccession r = forbidding r
 asks NotChainSuccession r = forbidding r
-asks Choice r = by_state (r.some_a || r.b_next) true false false
-asks ExclusiveChoice r = by_state (not (beq r.some_a r.b_next)) (not r.b_next) (not r.some_a) false
-asks t r = by_state false false false false
+asks Choice r = (r.some_a || r.b_next) ∷ true ∷ []
+asks ExclusiveChoice r = not (beq r.some_a r.b_next) ∷ not r.b_next ∷ not r.some_a ∷ []
+asks t r = []
+
+-- A state that is left out there asks what no rest has.
+abbrev pub asked : Template → Ahead → ℕ → Bool
+asked t r s = slice_index_or (asks t r) s false

@@ -2,6 +2,7 @@
 -- Assumes nothing.
 use Rattle.std.proofs.Common.{◌≡◌, ℕ, zero, suc, ◌<◌, ◌≤◌, Bool, true, false, not, ◌&&◌, ◌||◌, [], ◌∷◌, length, ◌⊎◌, ◌↔◌, inl, inr, refl, ap, subst, arith, IsTrue, Some}
 use Rattle.std.specs.Bool.{beq, Decides, MatchBool}
+use Rattle.std.proofs.lemmas.List.{nil_from_length}
 use Rattle.std.proofs.lemmas.Bool.Decides.{Decides-like, Decides-and, Decides-or, Decides-at}
 use Rattle.rules.specs.declared.letters.Letter.{Letter}
 use Rattle.rules.specs.declared.letters.Letter.TheVariants.{A, B, Other}
@@ -66,6 +67,7 @@ each_behind a l w P first rest = in_words (together, λ h. (h 0, λ i. h (suc i)
 abbrev pub Only : (Letter → Bool) → Word → ℕ → ℕ → Type 0
 Only K w i j = (k : ℕ) (l : Letter) → i ≤ k → k < j → StandsAt l w k → IsTrue (K l)
 
+-- One more letter in front moves the places on, and may itself be one of them.
 only_on : {K : Letter → Bool} (l : Letter) (w : Word) (i j : ℕ) → Only K w i j → Only K (l ∷ w) (suc i) (suc j)
 only_on l w i j o zero m below above is = absurd (omega arith)
 only_on l w i j o (suc k) m below above is = o k m (omega arith) (omega arith) is
@@ -101,12 +103,8 @@ tells_last t (l ∷ w) = in_words (longer, shorter) (Decides-or _ _ (Decides-and
     longer (inl (e, is)) = (0, rw e refl, is)
     longer (inr (i, e, is)) = (suc i, ap suc e, is)
 
-    no_more : (v : Word) → length v ≡ 0 → v ≡ []
-    no_more [] h = refl
-    no_more (m ∷ v) h = absurd (omega arith)
-
     shorter : EndsWithA (l ∷ w) → ((w ≡ []) × (Some l ≡ Some A)) ⊎ EndsWithA w
-    shorter (zero, e, is) = inl (no_more w (omega arith), is)
+    shorter (zero, e, is) = inl (nil_from_length w (omega arith), is)
     shorter (suc i, e, is) = inr (i, omega arith, is)
 
 pub tells_some : (t : Template) (w : Word) → Decides (ahead t w).some_a (Stands A w)

@@ -33,6 +33,7 @@ times_behind true y w = omega arith
 times_behind false true w = omega arith
 times_behind false false w = omega arith
 
+-- A template has the letter B when it takes two cues.
 takes_b : (args : Arguments) → Decides (has_letter args B) (args ≡ TwoCues)
 takes_b TwoCues = (λ _. refl, λ _. refl)
 takes_b CueAndCount = (λ h. cc, λ h. cc)
@@ -43,6 +44,7 @@ in_front_is : (c d : ℕ) → Decides (c == d) (Some c ≡ Some d)
 in_front_is c d = Decides-like _ (λ e. ap Some e) (λ e. cc) (Decides-eqb c d)
 
 module _ (r : Terms) (apart : CuesRight (arguments_of r.template) r.a r.b) where
+  -- Place by place; and how often.
   seen_a : (s : Show) (i : ℕ) → StandsAt A (word_of r s) i ↔ (slice_get s i ≡ Some r.a)
   seen_a [] i = (λ h. cc, λ h. cc)
   seen_a (c ∷ s) zero = is_a _ _ _ (in_front_is c r.a)
@@ -58,4 +60,4 @@ module _ (r : Terms) (apart : CuesRight (arguments_of r.template) r.a r.b) where
   seen_times (c ∷ s) = times_behind _ _ (word_of r s) ∙ ap (λ n. cond (c == r.a) 1 0 + n) (seen_times s) ∙ sym (sum_by-cons (λ d. cond (d == r.a) 1 0) c s)
 
 pub seen_by_place : (r : Rule) → SeenByPlace (terms r)
-seen_by_place r = record { long = λ s. length-map s (letter_of (terms r)); a = seen_a (terms r) r.in_form.cues; b = seen_b (terms r) r.in_form.cues; times = seen_times (terms r) r.in_form.cues }
+seen_by_place r = record { long = λ s. length-map s (letter_of (terms r)); a = seen_a (terms r) r.in_form.right.cues; b = seen_b (terms r) r.in_form.right.cues; times = seen_times (terms r) r.in_form.right.cues }

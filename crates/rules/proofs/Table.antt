@@ -1,8 +1,11 @@
 -- The table is right: one test over all of it, computed by the checker, and what the test tells of each template in it.
 -- Assumes nothing.
-use Rattle.std.proofs.Common.{◌≡◌, ℕ, zero, suc, ◌<◌, ◌≤◌, Bool, true, false, not, ◌&&◌, ◌||◌, ◌⊎◌, inl, inr, refl, sym, ◌∙◌, ap, arith, IsTrue, ◌==◌, nat_lt, slice_index}
+use Rattle.std.proofs.Common.{◌≡◌, ℕ, ◌<◌, ◌≤◌, Bool, true, false, not, ◌&&◌, ◌||◌, ◌⊎◌, inl, inr, length, refl, sym, ◌∙◌, ap, arith, IsTrue, ◌==◌, nat_lt, slice_index}
 use Rattle.std.specs.Bool.{beq}
+use Rattle.std.specs.Cmp.{booleans_Decides}
+use Rattle.std.proofs.lemmas.List.{get_or_past}
 use Rattle.std.proofs.lemmas.Bool.Decides.{Decides-eqb, nat_tests}
+use Rattle.std.proofs.lemmas.Bool.{and_parts}
 use Rattle.rules.specs.declared.letters.Letter.{Letter}
 use Rattle.rules.specs.declared.letters.Letter.TheVariants.{B, Other}
 use Rattle.rules.specs.declared.moves.TheConstants.{STATES}
@@ -12,16 +15,16 @@ use Rattle.rules.specs.declared.templates.Arguments.{Arguments}
 use Rattle.rules.specs.declared.templates.Arguments.TheVariants.{CueAndCount}
 use Rattle.rules.specs.Naming.{arguments_of}
 use Rattle.rules.specs.States.{row, tabled, table_closes, next_state, may_close, state_count, has_letter}
-use Rattle.rules.proofs.Ahead.{Ahead, nothing, in_front, by_state, asks}
-use Rattle.rules.proofs.Every.{both, every_letter, letter_passes, every_below, below_passes, every_template, template_passes, every_rest, rest_passes}
+use Rattle.rules.proofs.Ahead.{Ahead, nothing, in_front, asks, asked}
+use Rattle.rules.proofs.Every.{every_letter, letter_passes, every_below, below_passes, every_template, template_passes, every_rest, rest_passes}
 
 -- The test of one slot of the table. A show may close there exactly where an empty rest has what the state asks.
 abbrev closing_right : Template → ℕ → Bool
-closing_right t s = beq (table_closes (row t) s) (asks t nothing s)
+closing_right t s = beq (table_closes (row t) s) (asked t nothing s)
 
 -- What the state asks of a rest with a letter in front, the next state asks of the rest.
 abbrev move_right : Template → ℕ → Letter → ℕ → Ahead → Bool
-move_right t s l next r = beq (asks t (in_front t l r) s) (asks t r next)
+move_right t s l next r = beq (asked t (in_front t l r) s) (asked t r next)
 
 abbrev moves_right : Template → ℕ → Letter → Bool
 moves_right t s l = every_rest (move_right t s l (tabled (row t) s l))
@@ -45,9 +48,9 @@ record SlotRight (t : Template) (s : ℕ) : Type 0 where
 
 at_slot : (t : Template) (s : ℕ) → IsTrue (slot_right t s) → SlotRight t s
 at_slot t s h =
-    let parts = both (closing_right t s && every_letter (moves_right t s)) (kept_right t s && repeat_right t s) h in
-    let walk = both (closing_right t s) (every_letter (moves_right t s)) parts.0 in
-    let rest = both (kept_right t s) (repeat_right t s) parts.1 in
+    let parts = and_parts (closing_right t s && every_letter (moves_right t s)) (kept_right t s && repeat_right t s) h in
+    let walk = and_parts (closing_right t s) (every_letter (moves_right t s)) parts.0 in
+    let rest = and_parts (kept_right t s) (repeat_right t s) parts.1 in
     record { closing = walk.0; moves = walk.1; kept = rest.0; repeated = rest.1 }
 
 abbrev counts : Arguments → Bool
@@ -66,31 +69,20 @@ pub record ByTable (t : Template) (n : ℕ) : Type 0 where
   pub moves : (s : ℕ) (l : Letter) → next_state t n s l ≡ tabled (row t) s l
   pub closes : (s : ℕ) → may_close t n s ≡ table_closes (row t) s
   pub states : state_count t n ≡ slice_index STATES (row t)
-  -- past the four slots a state asks what no rest has
-  pub past : (s : ℕ) (r : Ahead) → 4 ≤ s → asks t r s ≡ false
-
-asked_past : (x y z u : Bool) (s : ℕ) → 4 ≤ s → by_state x y z u s ≡ false
-asked_past x y z u zero h = absurd (omega arith)
-asked_past x y z u (suc zero) h = absurd (omega arith)
-asked_past x y z u (suc (suc zero)) h = absurd (omega arith)
-asked_past x y z u (suc (suc (suc zero))) h = absurd (omega arith)
-asked_past x y z u (suc (suc (suc (suc s)))) h = refl
+  -- at most the states in the four slots ask something that a rest may have
+  pub few : (r : Ahead) → length (asks t r) ≤ 4
 
 pub by_table : (t : Template) (n : ℕ) → (arguments_of t ≡ CueAndCount → ⊥) → ByTable t n
 by_table Existence n h = absurd (h refl)
 by_table Absence n h = absurd (h refl)
 by_table Exactly n h = absurd (h refl)
-by_table t n h = record { without = refl; moves = λ s l. refl; closes = λ s. refl; states = refl; past = λ s r. asked_past _ _ _ _ s }
+by_table t n h = record { without = refl; moves = λ s l. refl; closes = λ s. refl; states = refl; few = λ r. omega arith }
 
-same : (x y : Bool) → IsTrue (beq x y) → x ≡ y
-same true true h = refl
-same true false h = cc
-same false true h = cc
-same false false h = refl
-
+-- A state lies within the four slots or past them.
 within_or_past : (s : ℕ) → (s < 4) ⊎ (4 ≤ s)
 within_or_past s = grind arith
 
+-- A number that is not below another fails the test.
 not_lower : (s k : ℕ) → k ≤ s → nat_lt s k ≡ false
 not_lower s k le = grind (arith, nat_tests)
 
@@ -98,28 +90,31 @@ module _ (t : Template) (n : ℕ) (table : ByTable t n) where
   right : (s : ℕ) → s < 4 → SlotRight t s
   right s within = let passed : IsTrue (template_right t) = template_passes template_right table_right t in at_slot t s (below_passes 4 (slot_right t) (rw table.without at passed) s within)
 
-  -- Past the four slots a state moves to itself and may not close.
+  -- Past the four slots a state asks what no rest has, moves to itself and may not close.
+  asked_past : (s : ℕ) (r : Ahead) → 4 ≤ s → asked t r s ≡ false
+  asked_past s r past = let few = table.few r in get_or_past (asks t r) s false (omega arith)
+
   past_stays : (s : ℕ) (l : Letter) → 4 ≤ s → next_state t n s l ≡ s
   past_stays s l past = table.moves s l ∙ rw (not_lower s 4 past) refl
 
   past_bars : (s : ℕ) → 4 ≤ s → may_close t n s ≡ false
   past_bars s past = table.closes s ∙ rw (not_lower s 4 past) refl
 
-  pub closed_as_asked : (s : ℕ) → may_close t n s ≡ asks t nothing s
+  pub closed_as_asked : (s : ℕ) → may_close t n s ≡ asked t nothing s
   closed_as_asked s = elim (within_or_past s) [
-    | inl within ↦ table.closes s ∙ same _ _ (right s within).closing
-    | inr past ↦ past_bars s past ∙ sym (table.past s nothing past)
+    | inl within ↦ table.closes s ∙ (booleans_Decides _ _).0 (right s within).closing
+    | inr past ↦ past_bars s past ∙ sym (asked_past s nothing past)
   ]
 
-  pub moved_as_asked : (s : ℕ) (l : Letter) (r : Ahead) → asks t (in_front t l r) s ≡ asks t r (next_state t n s l)
+  pub moved_as_asked : (s : ℕ) (l : Letter) (r : Ahead) → asked t (in_front t l r) s ≡ asked t r (next_state t n s l)
   moved_as_asked s l r = elim (within_or_past s) [
-    | inl within ↦ rw (table.moves s l) (same _ _ (rest_passes (move_right t s l (tabled (row t) s l)) (letter_passes (moves_right t s) (right s within).moves l) r))
-    | inr past ↦ table.past s _ past ∙ sym (table.past s r past) ∙ ap (asks t r) (sym (past_stays s l past))
+    | inl within ↦ rw (table.moves s l) ((booleans_Decides _ _).0 (rest_passes (move_right t s l (tabled (row t) s l)) (letter_passes (moves_right t s) (right s within).moves l) r))
+    | inr past ↦ asked_past s _ past ∙ sym (asked_past s r past) ∙ ap (asked t r) (sym (past_stays s l past))
   ]
 
   -- A state that the template lacks.
   lacked : (s : ℕ) → s < 4 → state_count t n ≤ s → IsTrue (not (table_closes (row t) s)) × IsTrue (every_letter (λ l. tabled (row t) s l == s))
-  lacked s within le = let not_own : nat_lt s (slice_index STATES (row t)) ≡ false = not_lower s (slice_index STATES (row t)) (rw table.states at le) in both _ _ (rw not_own at (right s within).kept)
+  lacked s within le = let not_own : nat_lt s (slice_index STATES (row t)) ≡ false = not_lower s (slice_index STATES (row t)) (rw table.states at le) in and_parts _ _ (rw not_own at (right s within).kept)
 
   pub table_stays : (s : ℕ) (l : Letter) → state_count t n ≤ s → next_state t n s l ≡ s
   table_stays s l le = elim (within_or_past s) [

@@ -12,7 +12,7 @@ use Rattle.rules.specs.Word.{Word, StandsAt, Stands, StandsLater, StandsEarlier,
 use Rattle.rules.specs.declared.templates.Arguments.TheVariants.{CueAndCount}
 use Rattle.rules.specs.Template.{Holds, Responds, RespondsAlternately, RespondsDirectly, Precedes, PrecedesAlternately, PrecedesDirectly}
 use Rattle.rules.specs.Naming.{arguments_of}
-use Rattle.rules.proofs.Ahead.{any, no_a, no_b, none, ahead, asks}
+use Rattle.rules.proofs.Ahead.{any, no_a, no_b, none, ahead, asked}
 use Rattle.rules.proofs.Places.{Only, NextB, Answer, Answered, Need, Preceded, in_words, is_same, each_place, tells_empty, tells_first, tells_last, tells_some, tells_next, tells_answered, tells_preceded}
 
 -- No letter may stand in the gap: there is none.
@@ -99,7 +99,7 @@ module _ (n : ℕ) (w : Word) where
   precedes_directly = each_place B w _ _ (need_directly w)
 
   -- At its first state a template asks of a word just that it holds.
-  pub asks_that_it_holds : (t : Template) → (arguments_of t ≡ CueAndCount → ⊥) → Decides (asks t (ahead t w) 0) (Holds t n w)
+  pub asks_that_it_holds : (t : Template) → (arguments_of t ≡ CueAndCount → ⊥) → Decides (asked t (ahead t w) 0) (Holds t n w)
   asks_that_it_holds Existence counts = absurd (counts refl)
   asks_that_it_holds Absence counts = absurd (counts refl)
   asks_that_it_holds Exactly counts = absurd (counts refl)

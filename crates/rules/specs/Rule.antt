@@ -10,7 +10,7 @@ use Rattle.rules.specs.declared.rules.RuleRefusal.TheVariants.{CountOutside, Sam
 use Rattle.rules.specs.declared.templates.Arguments.{Arguments}
 use Rattle.rules.specs.declared.templates.Arguments.TheVariants.{TwoCues}
 use Rattle.rules.specs.declared.templates.Template.{Template}
-use Rattle.rules.specs.Form.{CountRight, CuesRight, kept_b, kept_n}
+use Rattle.rules.specs.Form.{CountRight, CuesRight, Right, kept_b, kept_n}
 use Rattle.rules.specs.Word.{Word, StandsAt, times_a}
 use Rattle.rules.specs.Template.{Holds}
 use Rattle.rules.specs.Naming.{arguments_of}
@@ -37,11 +37,11 @@ TurnedDown SameCue args a b n = CuesRight args a b → ⊥
 
 -- How arguments are answered: accepted when they are right, or else turned down.
 abbrev pub LookedOver : Result Unit RuleRefusal → Arguments → ℕ → ℕ → ℕ → Type 0
-LookedOver looked args a b n = MatchResult looked (λ _. CountRight args n × CuesRight args a b) (λ e. TurnedDown e args a b n)
+LookedOver looked args a b n = MatchResult looked (λ _. Right args a b n) (λ e. TurnedDown e args a b n)
 
 -- Making a rule: right arguments are kept, and others are turned down.
 abbrev pub Made : Result Rule RuleRefusal → Template → ℕ → ℕ → ℕ → Type 0
-Made made t a b n = MatchResult made (λ r. CountRight (arguments_of t) n × CuesRight (arguments_of t) a b × (terms r ≡ kept t a b n)) (λ e. TurnedDown e (arguments_of t) a b n)
+Made made t a b n = MatchResult made (λ r. Right (arguments_of t) a b n × (terms r ≡ kept t a b n)) (λ e. TurnedDown e (arguments_of t) a b n)
 
 -- The published numbers of the refusals.
 abbrev pub refusal_number : RuleRefusal → ℕ

@@ -20,10 +20,10 @@ letter_number A = 0
 letter_number B = 1
 letter_number Other = 2
 
--- A counting rule counts the times of A up to the most that it tells apart.
+-- A counting rule counts the times of A up to a top, from which on it does not tell them apart.
 abbrev pub counted : ℕ → ℕ → Letter → ℕ
-counted most s A = if nat_lt s most then s + 1 else s
-counted most s l = s
+counted top s A = if nat_lt s top then s + 1 else s
+counted top s l = s
 
 -- A rule without a count moves and closes by the table, in which its template has a row with a slot for each of 4 states, and
 -- each slot has a move for each letter.

@@ -1,8 +1,8 @@
 //! What each template says of a word, read off its places and off nothing else.
 use rules::{Letter, Template};
 
-/// Whether a template with count n holds of a word.
-pub fn holds(template: Template, n: usize, word: &[Letter]) -> bool {
+// Whether a template with count n holds of a word.
+pub(super) fn holds(template: Template, n: usize, word: &[Letter]) -> bool {
     match template {
         Template::Existence => times(word) >= n,
         Template::Absence => times(word) < n,
