@@ -40,7 +40,7 @@ below_passes (suc n) f h k lt =
     elim last_or_before [ inl e ↦ rw e (and_parts _ _ h).0 | inr before ↦ below_passes n f (and_parts _ _ h).1 k before ]
 
 -- Every template.
-abbrev templates : List Template
+abbrev pub templates : List Template
 templates = Existence ∷ Absence ∷ Exactly ∷ Init ∷ Last ∷ RespondedExistence ∷ CoExistence ∷ Response ∷ Precedence ∷ Succession ∷ AlternateResponse ∷ AlternatePrecedence ∷ AlternateSuccession ∷ ChainResponse ∷ ChainPrecedence ∷ ChainSuccession ∷ NotCoExistence ∷ NotSuccession ∷ NotChainSuccession ∷ Choice ∷ ExclusiveChoice ∷ []
 
 listed : (t : Template) → slice_get templates (template_number t - 1) ≡ Some t

@@ -2,6 +2,7 @@ pub mod Ahead
 pub mod Places
 pub mod Verdicts
 pub mod Every
+pub mod Words
 pub mod Table
 pub mod Walks
 pub mod Lacking

@@ -1,6 +1,6 @@
 -- What templates are called, and which arguments they take.
 -- Assumes nothing.
-use Rattle.std.specs.Prelude.{ℕ, List, codes}
+use Rattle.std.specs.Prelude.{◌≡◌, ℕ, List, codes}
 use Rattle.rules.specs.declared.templates.Template.{Template}
 use Rattle.rules.specs.declared.templates.Template.TheVariants.{Existence, Absence, Exactly, Init, Last, RespondedExistence, CoExistence, Response, Precedence, Succession, AlternateResponse, AlternatePrecedence, AlternateSuccession, ChainResponse, ChainPrecedence, ChainSuccession, NotCoExistence, NotSuccession, NotChainSuccession, Choice, ExclusiveChoice}
 use Rattle.rules.specs.declared.templates.Arguments.{Arguments}
@@ -53,6 +53,10 @@ template_word NotSuccession = codes "not-succession"
 template_word NotChainSuccession = codes "not-chain-succession"
 template_word Choice = codes "choice"
 template_word ExclusiveChoice = codes "exclusive-choice"
+
+-- No two templates have one word.
+abbrev pub WordsToldApart : Type 0
+WordsToldApart = (t u : Template) → template_word t ≡ template_word u → t ≡ u
 
 -- Which arguments each template takes.
 abbrev pub arguments_of : Template → Arguments

@@ -1,6 +1,6 @@
 //! What templates are called, and which arguments they take.
 ghost use Rattle.std.specs.Prelude.{◌≡◌};
-ghost use Rattle.rules.specs.Naming.{template_number, template_word, arguments_of};
+ghost use Rattle.rules.specs.Naming.{template_number, template_word, arguments_of, WordsToldApart};
 ghost use Rattle.std.proofs.Common.{rules};
 
 use super::{Arguments, Template};
@@ -28,9 +28,11 @@ impl Template {
         }
     }
 
-    /// The template's word.
+    /// The template's word. No two templates have one word.
+    #[tactic(auto, using(crate::proofs::Words::words_apart))]
     pub fn word(self) -> &'static [u8]
-        ensures { result.now ≡ template_word self }
+        ensures value { result.now ≡ template_word self }
+        ensures told_apart { WordsToldApart }
     {
         match self {
             Template::Existence => b"existence",
