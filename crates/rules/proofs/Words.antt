@@ -5,7 +5,7 @@ use Rattle.std.specs.List.{find}
 use Rattle.std.specs.Str.{bytes_eq}
 use Rattle.rules.specs.declared.templates.Template.{Template}
 use Rattle.rules.specs.declared.templates.Template.TheVariants.{Existence}
-use Rattle.rules.specs.Naming.{template_word}
+use Rattle.rules.specs.Naming.{template_word, WordsToldApart}
 use Rattle.rules.proofs.Every.{templates}
 
 -- The template of a word, looked up among all.
@@ -16,5 +16,6 @@ found : (t : Template) → looked_up (template_word t) ≡ Some t
 found Existence = refl
 found t = refl
 
-pub words_apart : (t u : Template) → template_word t ≡ template_word u → t ≡ u
+pub words_apart : WordsToldApart
+unfolding WordsToldApart
 words_apart t u e = let h : Some t ≡ Some u = sym (found t) ∙ ap looked_up e ∙ found u in cc

@@ -55,7 +55,7 @@ template_word Choice = codes "choice"
 template_word ExclusiveChoice = codes "exclusive-choice"
 
 -- No two templates have one word.
-abbrev pub WordsToldApart : Type 0
+unfoldable pub WordsToldApart : Type 0
 WordsToldApart = (t u : Template) → template_word t ≡ template_word u → t ≡ u
 
 -- Which arguments each template takes.
