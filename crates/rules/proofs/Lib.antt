@@ -8,5 +8,4 @@ pub mod Walks
 pub mod Lacking
 pub mod OneNumbering
 pub mod Numbering
-pub mod Examples
 pub mod Seen

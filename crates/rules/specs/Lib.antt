@@ -4,4 +4,3 @@ pub mod Naming
 pub mod Form
 pub mod States
 pub mod Rule
-pub mod Examples

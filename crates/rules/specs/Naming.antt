@@ -1,6 +1,6 @@
 -- What templates are called, and which arguments they take.
 -- Assumes nothing.
-use Rattle.std.specs.Prelude.{◌≡◌, ℕ, List, codes}
+use Rattle.std.specs.Prelude.{◌≡◌, ℕ, List, Option, MatchOption, codes}
 use Rattle.rules.specs.declared.templates.Template.{Template}
 use Rattle.rules.specs.declared.templates.Template.TheVariants.{Existence, Absence, Exactly, Init, Last, RespondedExistence, CoExistence, Response, Precedence, Succession, AlternateResponse, AlternatePrecedence, AlternateSuccession, ChainResponse, ChainPrecedence, ChainSuccession, NotCoExistence, NotSuccession, NotChainSuccession, Choice, ExclusiveChoice}
 use Rattle.rules.specs.declared.templates.Arguments.{Arguments}
@@ -29,6 +29,10 @@ template_number NotSuccession = 18
 template_number NotChainSuccession = 19
 template_number Choice = 20
 template_number ExclusiveChoice = 21
+
+-- How a number is answered: by the template that has it, or by none where no template does.
+abbrev pub NumberedSo : Option Template → ℕ → Type 0
+NumberedSo found number = MatchOption found ((t : Template) → template_number t ≡ number → ⊥) (λ t. template_number t ≡ number)
 
 -- The words of the templates.
 abbrev pub template_word : Template → List ℕ

@@ -43,6 +43,14 @@ LookedOver looked args a b n = MatchResult looked (λ _. Right args a b n) (λ e
 abbrev pub Made : Result Rule RuleRefusal → Template → ℕ → ℕ → ℕ → Type 0
 Made made t a b n = MatchResult made (λ r. Right (arguments_of t) a b n × (terms r ≡ kept t a b n)) (λ e. TurnedDown e (arguments_of t) a b n)
 
+-- The terms of a rule with another count.
+abbrev pub retuned : Terms → ℕ → Terms
+retuned r n = kept r.template r.a r.b n
+
+-- Giving a rule another count: a right one is kept, and another leaves the rule as it was.
+abbrev pub Retuned : Result Unit RuleRefusal → ℕ → Rule → Rule → Type 0
+Retuned given n before after = MatchResult given (λ _. CountRight (arguments_of before.template) n × (terms after ≡ retuned (terms before) n)) (λ e. (e ≡ CountOutside) × (CountRight (arguments_of before.template) n → ⊥) × (after ≡ before))
+
 -- The published numbers of the refusals.
 abbrev pub refusal_number : RuleRefusal → ℕ
 refusal_number CountOutside = 10

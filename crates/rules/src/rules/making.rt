@@ -1,6 +1,6 @@
 //! Making a rule, and what it is made of.
 ghost use Rattle.std.specs.Prelude.{◌≡◌, Some};
-ghost use Rattle.rules.specs.Rule.{LookedOver, Made, terms, refusal_number, refusal_words};
+ghost use Rattle.rules.specs.Rule.{LookedOver, Made, Retuned, terms, refusal_number, refusal_words};
 ghost use Rattle.std.proofs.Common.{rules};
 
 use super::{Rule, RuleRefusal};
@@ -46,6 +46,15 @@ impl Rule {
             Arguments::TwoCues => (b, 0),
         };
         Ok(Rule { template, a, b, n })
+    }
+
+    /// Gives the rule another count. One that its template lacks is not looked at; a refusal leaves the rule as it was.
+    pub fn retune(&mut self, n: u8) -> Result<(), RuleRefusal>
+        ensures { Retuned result n self.old self.new }
+    {
+        let Rule { template, a, b, .. } = *self;
+        *self = Rule::new(template, a, b, n)?;
+        Ok(())
     }
 
     /// The rule's template.

@@ -1,7 +1,6 @@
 //! A rule as an automaton over letters.
 ghost use Rattle.std.specs.Prelude.{◌≡◌, ◌↔◌, IsTrue};
 ghost use Rattle.rules.specs.States.{StatesAre};
-ghost use Rattle.rules.specs.Examples.{ExamplesAsTold};
 ghost use Rattle.rules.specs.Rule.{terms, letter_of, FallsUnder, states_of, step_of, closes_at, SeenByPlace, HoldsOf, ClosesWhereItHolds};
 
 use super::Rule;
@@ -66,7 +65,6 @@ impl Rule {
     pub fn holds(self, show: &[u8]) -> bool
         ensures value { IsTrue result ↔ HoldsOf (terms self) show.now }
         ensures places { SeenByPlace (terms self) }
-        ensures examples { ExamplesAsTold }
     {
         let state = show
             .iter()

@@ -1,6 +1,6 @@
 //! What templates are called, and which arguments they take.
 ghost use Rattle.std.specs.Prelude.{◌≡◌};
-ghost use Rattle.rules.specs.Naming.{template_number, template_word, arguments_of, WordsToldApart};
+ghost use Rattle.rules.specs.Naming.{template_number, template_word, arguments_of, WordsToldApart, NumberedSo};
 ghost use Rattle.std.proofs.Common.{rules};
 
 use super::{Arguments, Template};
@@ -17,6 +17,36 @@ impl Numbered for Template {
 }
 
 impl Template {
+    /// The template with a published number, where there is one.
+    pub fn from_number(number: u8) -> Option<Template>
+        ensures { NumberedSo result number }
+    {
+        match number {
+            1 => Some(Template::Existence),
+            2 => Some(Template::Absence),
+            3 => Some(Template::Exactly),
+            4 => Some(Template::Init),
+            5 => Some(Template::Last),
+            6 => Some(Template::RespondedExistence),
+            7 => Some(Template::CoExistence),
+            8 => Some(Template::Response),
+            9 => Some(Template::Precedence),
+            10 => Some(Template::Succession),
+            11 => Some(Template::AlternateResponse),
+            12 => Some(Template::AlternatePrecedence),
+            13 => Some(Template::AlternateSuccession),
+            14 => Some(Template::ChainResponse),
+            15 => Some(Template::ChainPrecedence),
+            16 => Some(Template::ChainSuccession),
+            17 => Some(Template::NotCoExistence),
+            18 => Some(Template::NotSuccession),
+            19 => Some(Template::NotChainSuccession),
+            20 => Some(Template::Choice),
+            21 => Some(Template::ExclusiveChoice),
+            _ => None,
+        }
+    }
+
     /// Which arguments the template takes.
     pub fn arguments(self) -> Arguments
         ensures { result ≡ arguments_of self }

@@ -1,0 +1,83 @@
+//! The rules that a draft or a book holds.
+ghost use Rattle.std.specs.Prelude.{◌≡◌, ◌+◌, ◌-◌, ◌<◌, ◌≤◌, ◌++◌, [], ◌∷◌, length, remove, slice_get, Some, MatchOption};
+ghost use Rattle.rules.specs.Rule.{terms};
+ghost use Rattle.book.specs.Held.{most_rules, blank, held_rules, Tidy, RetunedAt};
+
+use rules::{Rule, RuleRefusal, Template};
+
+/// How many rules a draft or a book holds at most.
+pub(crate) const MOST_RULES: u8 = 16;
+
+const PLACES: usize = MOST_RULES as usize;
+
+/// Rules in places of a fixed number, those held first and blank ones beyond.
+#[derive(Drop)]
+pub(crate) struct Held {
+    pub(crate) rules: [Rule; PLACES],
+    pub(crate) count: u8,
+}
+
+impl Held {
+    // No rule is held.
+    pub(crate) fn none() -> Held
+        ensures tidy { Tidy result }
+        ensures rules { held_rules result ≡ [] }
+    {
+        Held {
+            rules: [blank(); PLACES],
+            count: 0,
+        }
+    }
+
+    // Holds one rule more, as the last.
+    pub(crate) fn push(&mut self, rule: Rule)
+        requires tidy { Tidy self.old }
+        requires room { self.old.count < most_rules }
+        ensures tidy { Tidy self.new }
+        ensures rules { held_rules self.new ≡ held_rules self.old ++ terms rule ∷ [] }
+    {
+        self.rules[usize::from(self.count)] = rule;
+        self.count += 1;
+    }
+
+    // Takes a rule out. Later ones move down.
+    pub(crate) fn remove(&mut self, i: u8)
+        requires tidy { Tidy self.old }
+        requires held { i < self.old.count }
+        ensures tidy { Tidy self.new }
+        ensures rules { held_rules self.new ≡ remove (held_rules self.old) i }
+    {
+        self.rules[usize::from(i)..].rotate_left(1);
+        self.count -= 1;
+        self.rules[PLACES - 1] = blank();
+    }
+
+    // Gives one rule another count. All others stay as they are.
+    pub(crate) fn retune(&mut self, i: u8, n: u8) -> Result<(), RuleRefusal>
+        requires tidy { Tidy self.old }
+        requires held { i < self.old.count }
+        ensures tidy { Tidy self.new }
+        ensures retuned { RetunedAt i n result self.old self.new }
+    {
+        self.rules[usize::from(i)].retune(n)
+    }
+
+    // The rule of a number, where one is held.
+    pub(crate) fn get(&self, i: u8) -> Option<Rule>
+        requires tidy { Tidy self.now }
+        ensures { MatchOption result (length (held_rules self.now) ≤ i) (λ r. slice_get (held_rules self.now) i ≡ Some (terms r)) }
+    {
+        if i < self.count {
+            Some(self.rules[usize::from(i)])
+        } else {
+            None
+        }
+    }
+}
+
+// What stands in a place where no rule is held: init of cue 0.
+fn blank() -> Rule
+    ensures { terms result ≡ blank }
+{
+    Rule::new(Template::Init, 0, 0, 0).unwrap()
+}

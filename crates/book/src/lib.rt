@@ -1,0 +1,9 @@
+//! Books: rules together as a machine, drafts of books, and what a running show means to one rule of a book. Nothing here
+//! allocates.
+
+#![tactic(auto)]
+
+mod drafts;
+mod held;
+
+pub use drafts::{Draft, DraftRefusal};
