@@ -1,5 +1,5 @@
 //! The rules that a draft or a book holds.
-ghost use Rattle.std.specs.Prelude.{◌≡◌, ◌+◌, ◌-◌, ◌<◌, ◌≤◌, ◌++◌, [], ◌∷◌, length, remove, slice_get, Some, MatchOption};
+ghost use Rattle.std.specs.Prelude.{◌≡◌, ◌+◌, ◌-◌, ◌<◌, ◌≤◌, ◌++◌, [], ◌∷◌, length, map, remove, slice_get, Some, MatchOption};
 ghost use Rattle.rules.specs.Rule.{terms};
 ghost use Rattle.book.specs.Held.{most_rules, blank, held_rules, Tidy, RetunedAt};
 
@@ -60,6 +60,15 @@ impl Held {
         ensures retuned { RetunedAt i n result self.old self.new }
     {
         self.rules[usize::from(i)].retune(n)
+    }
+
+    // The rules that are held.
+    pub(crate) fn all(&self) -> &[Rule]
+        requires tidy { Tidy self.now }
+        ensures rules { map terms result.now ≡ held_rules self.now }
+        ensures few { length result.now ≤ most_rules }
+    {
+        &self.rules[..usize::from(self.count)]
     }
 
     // The rule of a number, where one is held.

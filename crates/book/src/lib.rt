@@ -3,7 +3,9 @@
 
 #![tactic(auto)]
 
+mod books;
 mod drafts;
 mod held;
 
+pub use books::Book;
 pub use drafts::{Draft, DraftRefusal};
