@@ -1,2 +1,4 @@
 pub mod Places
 pub mod Parts
+pub mod Gathered
+pub mod Coming

@@ -1,6 +1,6 @@
 -- A book keeps the laws of machines.
 -- Assumes nothing.
-use Rattle.std.proofs.Common.{rules, Bool, true, false, if◌then◌else◌, nat_lt, ◌++◌, ◌≡◌, ℕ, zero, suc, ◌+◌, ◌*◌, ◌/◌, ◌%◌, ◌^◌, ◌<◌, ◌≤◌, ◌⊎◌, inl, inr, List, [], ◌∷◌, length, map, take, sym, ap, ◌∙◌, arith, refl}
+use Rattle.std.proofs.Common.{rules, Bool, true, false, if◌then◌else◌, nat_lt, ◌++◌, ◌≡◌, ℕ, zero, suc, ◌*◌, ◌/◌, ◌%◌, ◌^◌, ◌<◌, ◌≤◌, ◌⊎◌, inl, inr, List, [], ◌∷◌, length, map, take, sym, arith}
 use Rattle.std.proofs.lemmas.List.{take-map, length-take}
 use Rattle.std.proofs.lemmas.List.Sums.{fold-append}
 use Rattle.std.proofs.lemmas.Bool.Decides.{nat_tests}

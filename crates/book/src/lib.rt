@@ -6,6 +6,10 @@
 mod books;
 mod drafts;
 mod held;
+#[allow(dead_code)]
+mod ahead;
+mod values;
 
 pub use books::Book;
 pub use drafts::{Draft, DraftRefusal};
+pub use values::{ReadingRefusal, Value};

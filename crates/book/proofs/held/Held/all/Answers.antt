@@ -1,4 +1,4 @@
-use Rattle.std.proofs.Common.{◌≡◌, sym}
+use Rattle.std.proofs.Common.{sym}
 use Rattle.std.proofs.lemmas.List.{take-map}
 use Rattle.rules.specs.Rule.{terms}
 use Rattle.book.proofs.held.Held.all.Goals as goal
