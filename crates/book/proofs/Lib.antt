@@ -2,3 +2,4 @@ pub mod Places
 pub mod Parts
 pub mod Gathered
 pub mod Coming
+pub mod Readings

@@ -5,6 +5,7 @@ use Rattle.std.proofs.Math.Nat.{div-div-eq-div-mul, pow-succ', zero-div}
 use Rattle.std.specs.Option.{unwrap_or}
 use Rattle.std.proofs.lemmas.Bool.{and_parts, lt-ltb}
 use Rattle.std.proofs.lemmas.Bool.Decides.{nat_tests}
+use Rattle.std.proofs.lemmas.Nat.{pow-add}
 use Rattle.std.proofs.lemmas.List.{take-map, map-append}
 use Rattle.std.proofs.lemmas.List.Sums.{fold-append}
 use Rattle.machine.specs.Show.{Show, Cued}
@@ -19,6 +20,11 @@ use Rattle.book.specs.Held.{held_rules}
 use Rattle.book.specs.Content.{Content, RuleAt}
 use Rattle.book.specs.Book.{moved, all_close, part, content_meaning, MovesByParts, AllowsWhatHolds}
 use Rattle.book.specs.Law.{step_below}
+
+-- Four bits are a digit.
+pub sixteen : (i : ℕ) → 2 ^ (4 * i) ≡ 16 ^ i
+sixteen zero = refl
+sixteen (suc i) = let e : 4 * suc i ≡ 4 + 4 * i = omega arith in ap (λ k. 2 ^ k) e ∙ pow-add 2 4 (4 * i) ∙ ap (λ k. 16 * k) (sixteen i) ∙ sym (pow-succ' 16 i)
 
 -- A part further up is one of the digits above the lowest.
 part_up : (p i : ℕ) → part p (suc i) ≡ part (p / 16) i
@@ -72,7 +78,7 @@ each_then_all (x ∷ rs) p h =
     rw first (each_then_all rs (p / 16) (λ i r e. rw (part_up p i) at (h (suc i) r e)))
 
 -- The rules held are the terms of rules.
-held_are : (h : Held) → held_rules h ≡ map terms (take h.count h.rules)
+pub held_are : (h : Held) → held_rules h ≡ map terms (take h.count h.rules)
 held_are h = take-map terms h.count h.rules
 
 module _ (cues : ℕ) (h : Held) where

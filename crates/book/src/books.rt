@@ -5,6 +5,7 @@ ghost use Rattle.book.specs.Held.{Tidy};
 use crate::held::Held;
 
 mod as_machine;
+mod reading;
 mod sealing;
 
 /// A book (a constraint set, and the conjunction of its constraints as an automaton): a cue count, and at most 16 rules,

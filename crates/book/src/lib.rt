@@ -6,7 +6,6 @@
 mod books;
 mod drafts;
 mod held;
-#[allow(dead_code)]
 mod ahead;
 mod values;
 

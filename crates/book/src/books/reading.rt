@@ -1,0 +1,61 @@
+//! Reading one rule of a book at a position, and weighing a cue for it.
+ghost use Rattle.std.specs.Prelude.{◌≡◌, ◌<◌};
+ghost use Rattle.book.specs.Book.{book_content, part};
+ghost use Rattle.book.specs.Reading.{Stands, Read, ReadBehindShows, OneReading, Weighed, WeighedBehindShows, SecondANotRelevant};
+
+use super::Book;
+use crate::ahead::Ahead;
+use crate::values::{ReadingRefusal, Value};
+use rules::Rule;
+
+impl Book {
+    /// Reads a rule at a position: its value, and the permitted cues as bits, bit c for cue c. A cue is permitted when the value
+    /// after it is not 3.
+    ///
+    /// At a position to which a show of the book's cues leads (`behind`), the reading is told of that show and of all that can
+    /// follow it.
+    #[tactic(auto, using(crate::proofs::Readings::read_behind, crate::proofs::Readings::one_reading))]
+    pub fn reading(&self, position: u64, rule: u8) -> Result<(Value, u32), ReadingRefusal>
+        ensures answer { Read result (book_content self.now) position rule }
+        ensures behind { ReadBehindShows result self.now position rule }
+        ensures one { OneReading }
+    {
+        let (rule, state) = self.stands(position, rule)?;
+        Ok(Ahead::of(rule, self.cues).reading(state))
+    }
+
+    /// Whether a cue is relevant to a rule at a position: value or permitted cues differ after it.
+    #[tactic(auto, using(crate::proofs::Readings::weighed_behind, crate::proofs::Readings::second_a_not_relevant))]
+    pub fn relevance(&self, position: u64, rule: u8, cue: u8) -> Result<bool, ReadingRefusal>
+        ensures answer { Weighed result (book_content self.now) position rule cue }
+        ensures behind { WeighedBehindShows result self.now position rule cue }
+        ensures second { SecondANotRelevant }
+    {
+        let (rule, state) = self.stands(position, rule)?;
+        if cue >= self.cues {
+            return Err(ReadingRefusal::NoSuchCue);
+        }
+        Ok(Ahead::of(rule, self.cues).turns(state, cue))
+    }
+
+    // The rule of a number, and the state of it that the position has.
+    fn stands(&self, position: u64, rule: u8) -> Result<(Rule, u8), ReadingRefusal>
+        ensures { Stands result (book_content self.now) position rule }
+    {
+        let i = rule;
+        let rule = self.held.get(i).ok_or(ReadingRefusal::NoSuchRule)?;
+        let state = part(position, i);
+        if state >= rule.states() {
+            return Err(ReadingRefusal::NoSuchState);
+        }
+        Ok((rule, state))
+    }
+}
+
+// The part of a position that is a rule's state: four bits.
+fn part(position: u64, i: u8) -> u8
+    requires { i < 16 }
+    ensures { result ≡ part position i }
+{
+    ((position >> (4 * i)) % 16) as u8
+}
