@@ -3,3 +3,4 @@ pub mod Parts
 pub mod Gathered
 pub mod Coming
 pub mod Readings
+pub mod Examples

@@ -121,6 +121,7 @@ module _ (cues : ℕ) (h : Held) where
 
   -- So the book allows such a show exactly when every rule holds of it.
   pub allows_what_holds : AllowsWhatHolds m content
-  allows_what_holds s cued =
-      (λ closes i r there. (closes_where_it_holds r s).0 (rw (part_after i r there s cued) at (all_then_each (held_rules h) (leads_to m s) closes i r there)),
-        λ hold. each_then_all (held_rules h) (leads_to m s) (λ i r there. rw (part_after i r there s cued) ((closes_where_it_holds r s).1 (hold i r there))))
+  allows_what_holds s cued = (
+    λ closes i r there. (closes_where_it_holds r s).0 (rw (part_after i r there s cued) at (all_then_each (held_rules h) (leads_to m s) closes i r there)),
+    λ hold. each_then_all (held_rules h) (leads_to m s) (λ i r there. rw (part_after i r there s cued) ((closes_where_it_holds r s).1 (hold i r there))),
+  )

@@ -64,7 +64,7 @@ module _ (h : Held) (tidy : Tidy h) where
       → let next : Held = record { rules = set rules 15 x; count = h.count - 1 } in Tidy next × (held_rules next ≡ remove (held_rules h) i)
   removed i rules y x held turned e =
       laid (record { rules = set rules 15 x; count = h.count - 1 }) (remove (held_rules h) i) (omega (arith, length-remove (held_rules h) i (omega (arith, held_long h tidy)), held_long h tidy)) (omega (arith, tidy.room)) at
-          (length-set rules 15 x ∙ ap length turned ∙ length-append (remove h.rules i) _ ∙ length-remove h.rules i (omega (arith, tidy.places, tidy.room)) ∙ tidy.places)
+      (length-set rules 15 x ∙ ap length turned ∙ length-append (remove h.rules i) _ ∙ length-remove h.rules i (omega (arith, tidy.places, tidy.room)) ∙ tidy.places)
     where
       fewer : List Terms
       fewer = remove (held_rules h) i

@@ -57,9 +57,10 @@ same_bits m n same = let below = within_lower m n (λ i. (same i).0) in let abov
 module _ (count : ℕ) (H G : Show → Type 0) (w x : Value) (m n : ℕ) (first : Reads count H w m) (second : Reads count G x n) where
   -- What is read alike has the same reading, and conversely.
   same_if_alike : ReadAlike count H G → (w ≡ x) × (m ≡ n)
-  same_if_alike alike =
-      (one_value count G w x ((alike.value w).0 first.value) second.value,
-        same_bits m n (λ q. (λ h. (second.permitted q).1 ((alike.permitted q).0 ((first.permitted q).0 h)), λ h. (first.permitted q).1 ((alike.permitted q).1 ((second.permitted q).0 h)))))
+  same_if_alike alike = (
+    one_value count G w x ((alike.value w).0 first.value) second.value,
+    same_bits m n (λ q. (λ h. (second.permitted q).1 ((alike.permitted q).0 ((first.permitted q).0 h)), λ h. (first.permitted q).1 ((alike.permitted q).1 ((second.permitted q).0 h)))),
+  )
 
   alike_if_same : w ≡ x → m ≡ n → ReadAlike count H G
   alike_if_same e f = record {
@@ -87,6 +88,11 @@ read_alike count H G same = record {
   value = λ w. (value_as count H G same w, value_as count G H (λ v. as_well (same v)) w);
   permitted = λ q. (permitted_as count H G same q, permitted_as count G H (λ v. as_well (same v)) q);
 }
+
+pub reads_as : (count : ℕ) (H G : Show → Type 0) → ((v : Show) → H v ↔ G v) → (w : Value) (mask : ℕ) → Reads count H w mask → Reads count G w mask
+reads_as count H G same w mask reads =
+    let alike = read_alike count H G same in
+    record { value = (alike.value w).0 reads.value; permitted = λ q. (λ h. (alike.permitted q).0 ((reads.permitted q).0 h), λ h. (reads.permitted q).1 ((alike.permitted q).1 h)) }
 
 -- To be read alike is an equivalence.
 module _ {count : ℕ} {H G : Show → Type 0} where
@@ -152,10 +158,7 @@ module _ (b : Book) (p i : ℕ) (s : Show) (cued : Cued b.cues s) (leads : p ≡
 pub read_behind : (b : Book) (answer : Result (Value × ℕ) ReadingRefusal) (p i : ℕ) → Read answer (book_content b) p i → ReadBehindShows answer b p i
 unfolding ReadBehindShows
 read_behind b (Ok told) p i (r, (there, low), reads) s cued leads =
-    (r, there, record {
-        value = value_as b.cues _ _ (same_behind b p i s cued leads r there) told.0 reads.value;
-        permitted = λ q. let same = (read_alike b.cues _ _ (same_behind b p i s cued leads r there)).permitted q in (λ h. same.0 ((reads.permitted q).0 h), λ h. (reads.permitted q).1 (same.1 h));
-      })
+    (r, there, reads_as b.cues _ _ (same_behind b p i s cued leads r there) told.0 told.1 reads)
 read_behind b (Err NoSuchRule) p i past s cued leads = (refl, past)
 read_behind b (Err NoSuchState) p i (r, there, past) s cued leads = absurd (not_lacking b p i s cued leads r there past)
 read_behind b (Err NoSuchCue) p i none s cued leads = absurd none

@@ -56,7 +56,7 @@ Checked made count number a b n = MatchResult made
 abbrev pub Added : Result Unit DraftRefusal → ℕ → ℕ → ℕ → ℕ → Draft → Draft → Type 0
 Added r number a b n before after = MatchResult r
     (λ _. OfTemplate number (λ t. CuesBelow (draft_content before).cues t a b × Right (arguments_of t) a b n × Room (draft_content before)
-        × (draft_content after ≡ with_rule (draft_content before) (kept t a b n))))
+    × (draft_content after ≡ with_rule (draft_content before) (kept t a b n))))
     (λ e. NotAdded e (draft_content before) number a b n × (after ≡ before))
 
 -- A rule is struck: later rules move down.

@@ -6,3 +6,4 @@ pub mod Law
 pub mod Value
 pub mod Reading
 pub mod Coreachable
+pub mod Examples

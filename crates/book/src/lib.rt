@@ -3,10 +3,10 @@
 
 #![tactic(auto)]
 
+mod ahead;
 mod books;
 mod drafts;
 mod held;
-mod ahead;
 mod values;
 
 pub use books::Book;

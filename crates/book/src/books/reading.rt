@@ -1,6 +1,7 @@
 //! Reading one rule of a book at a position, and weighing a cue for it.
 ghost use Rattle.std.specs.Prelude.{◌≡◌, ◌<◌};
 ghost use Rattle.book.specs.Book.{book_content, part};
+ghost use Rattle.book.specs.Examples.{ExamplesAsTold};
 ghost use Rattle.book.specs.Reading.{Stands, Read, ReadBehindShows, OneReading, Weighed, WeighedBehindShows, SecondANotRelevant};
 
 use super::Book;
@@ -14,11 +15,12 @@ impl Book {
     ///
     /// At a position to which a show of the book's cues leads (`behind`), the reading is told of that show and of all that can
     /// follow it.
-    #[tactic(auto, using(crate::proofs::Readings::read_behind, crate::proofs::Readings::one_reading))]
+    #[tactic(auto, using(crate::proofs::Readings::read_behind, crate::proofs::Readings::one_reading, crate::proofs::Examples::examples_as_told))]
     pub fn reading(&self, position: u64, rule: u8) -> Result<(Value, u32), ReadingRefusal>
         ensures answer { Read result (book_content self.now) position rule }
         ensures behind { ReadBehindShows result self.now position rule }
         ensures one { OneReading }
+        ensures examples { ExamplesAsTold }
     {
         let (rule, state) = self.stands(position, rule)?;
         Ok(Ahead::of(rule, self.cues).reading(state))
