@@ -1,8 +1,8 @@
 -- Readings: there is one of each outlook, outlooks that hold alike are read alike, and a state is read as the shows that lead to it.
 -- Assumes nothing.
-use Rattle.std.proofs.Common.{◌≡◌, ℕ, zero, suc, ◌==◌, ◌<◌, ◌≤◌, inl, inr, ◌↔◌, IsTrue, Bool, not, [], ◌∷◌, ◌++◌, sym, ap, ◌∙◌, refl, arith, Ok, Err, Result, Option, Some, None, unwrap_or, option_map, slice_get, take}
+use Rattle.std.proofs.Common.{◌≡◌, ℕ, zero, suc, ◌<◌, ◌≤◌, inl, inr, ◌↔◌, IsTrue, Bool, [], ◌∷◌, ◌++◌, sym, ap, ◌∙◌, refl, arith, Ok, Err, Result, Option, Some, None, unwrap_or, option_map, slice_get, take}
 use Rattle.std.proofs.Math.Path.{subst}
-use Rattle.std.proofs.lemmas.Bool.Decides.{Decides-eqb, Decides-not}
+use Rattle.std.proofs.lemmas.Bool.Decides.{Decides-eqb}
 use Rattle.machine.specs.Show.{Show, Cued}
 use Rattle.machine.specs.Table.{bit}
 use Rattle.rules.specs.declared.templates.Template.TheVariants.{Response}
@@ -116,13 +116,6 @@ relevant_as count H G same q =
 pub relevant_if_other : (count : ℕ) (H : Show → Type 0) (q : ℕ) (w x : Value) (m n : ℕ) → Reads count H w m → Reads count (behind q H) x n → ((w ≡ x) × (m ≡ n) → ⊥) ↔ Relevant count H q
 relevant_if_other count H q w x m n first second =
     (λ other alike. other (same_if_alike count H (behind q H) w x m n first second alike), λ relevant same. relevant (alike_if_same count H (behind q H) w x m n first second same.0 same.1))
-
--- With one value, it is relevant exactly when the permitted cues differ.
-pub relevant_if_masks_differ : (count : ℕ) (H : Show → Type 0) (q : ℕ) (w x : Value) (m n : ℕ) → Reads count H w m → Reads count (behind q H) x n → w ≡ x → IsTrue (not (m == n)) ↔ Relevant count H q
-relevant_if_masks_differ count H q w x m n first second e =
-    let r = relevant_if_other count H q w x m n first second in
-    let differ = Decides-not (m == n) (Decides-eqb m n) in
-    (λ h. r.0 (λ same. differ.0 h same.1), λ relevant. differ.1 (λ f. r.1 relevant (e, f)))
 
 -- Any two readings of a state are one.
 pub one_reading : OneReading

@@ -10,41 +10,40 @@ use crate::values::{ReadingRefusal, Value};
 use rules::Rule;
 
 impl Book {
-    /// Reads a rule at a position: its value, and the permitted cues as bits, bit c for cue c. A cue is permitted when the value
+    /// Reads rule i at a position: its value, and the permitted cues as bits, bit c for cue c. A cue is permitted when the value
     /// after it is not 3.
     ///
     /// At a position to which a show of the book's cues leads (`behind`), the reading is told of that show and of all that can
     /// follow it.
     #[tactic(auto, using(crate::proofs::Readings::read_behind, crate::proofs::Readings::one_reading, crate::proofs::Examples::examples_as_told))]
-    pub fn reading(&self, position: u64, rule: u8) -> Result<(Value, u32), ReadingRefusal>
-        ensures answer { Read result (book_content self.now) position rule }
-        ensures behind { ReadBehindShows result self.now position rule }
+    pub fn reading(&self, position: u64, i: u8) -> Result<(Value, u32), ReadingRefusal>
+        ensures answer { Read result (book_content self.now) position i }
+        ensures behind { ReadBehindShows result self.now position i }
         ensures one { OneReading }
         ensures examples { ExamplesAsTold }
     {
-        let (rule, state) = self.stands(position, rule)?;
+        let (rule, state) = self.stands(position, i)?;
         Ok(Ahead::of(rule, self.cues).reading(state))
     }
 
-    /// Whether a cue is relevant to a rule at a position: value or permitted cues differ after it.
+    /// Whether a cue is relevant to rule i at a position: value or permitted cues differ after it.
     #[tactic(auto, using(crate::proofs::Readings::weighed_behind, crate::proofs::Readings::second_a_not_relevant))]
-    pub fn relevance(&self, position: u64, rule: u8, cue: u8) -> Result<bool, ReadingRefusal>
-        ensures answer { Weighed result (book_content self.now) position rule cue }
-        ensures behind { WeighedBehindShows result self.now position rule cue }
+    pub fn relevance(&self, position: u64, i: u8, cue: u8) -> Result<bool, ReadingRefusal>
+        ensures answer { Weighed result (book_content self.now) position i cue }
+        ensures behind { WeighedBehindShows result self.now position i cue }
         ensures second { SecondANotRelevant }
     {
-        let (rule, state) = self.stands(position, rule)?;
+        let (rule, at) = self.stands(position, i)?;
         if cue >= self.cues {
             return Err(ReadingRefusal::NoSuchCue);
         }
-        Ok(Ahead::of(rule, self.cues).turns(state, cue))
+        Ok(Ahead::of(rule, self.cues).turns(at, cue))
     }
 
-    // The rule of a number, and the state of it that the position has.
-    fn stands(&self, position: u64, rule: u8) -> Result<(Rule, u8), ReadingRefusal>
-        ensures { Stands result (book_content self.now) position rule }
+    // Rule i, and the state of it that the position has.
+    fn stands(&self, position: u64, i: u8) -> Result<(Rule, u8), ReadingRefusal>
+        ensures { Stands result (book_content self.now) position i }
     {
-        let i = rule;
         let rule = self.held.get(i).ok_or(ReadingRefusal::NoSuchRule)?;
         let state = part(position, i);
         if state >= rule.states() {

@@ -2,7 +2,7 @@ use Rattle.book.proofs.Parts.{moves_by_parts, allows_what_holds}
 use Rattle.book.proofs.drafts.Draft.seal.Goals as goal
 
 pub returns-clause-parts : goal.returns-clause-parts
-returns-clause-parts c = moves_by_parts c.args.self.cues c.args.self.held
+returns-clause-parts c = moves_by_parts _ _
 
 pub returns-clause-allows : goal.returns-clause-allows
-returns-clause-allows c = allows_what_holds c.args.self.cues c.args.self.held
+returns-clause-allows c = allows_what_holds _ _
