@@ -26,14 +26,14 @@ pub sixteen : (i : ℕ) → 2 ^ (4 * i) ≡ 16 ^ i
 sixteen zero = refl
 sixteen (suc i) = let e : 4 * suc i ≡ 4 + 4 * i = omega arith in ap (λ k. 2 ^ k) e ∙ pow-add 2 4 (4 * i) ∙ ap (λ k. 16 * k) (sixteen i) ∙ sym (pow-succ' 16 i)
 
--- A part further up is one of the digits above the lowest.
+-- Part 0 is the lowest digit; a part further up is one of the digits above it.
 part_up : (p i : ℕ) → part p (suc i) ≡ part (p / 16) i
 part_up p i = ap (λ k. p / k % 16) (pow-succ' 16 i) ∙ ap (λ k. k % 16) (sym (div-div-eq-div-mul p 16 (16 ^ i)))
 
 part_low : (p : ℕ) → part p 0 ≡ p % 16
 part_low p = omega arith
 
--- The lowest digit, and the number above it.
+-- Of a digit and a number above it, part 0 is the digit, and the others are the parts of the number.
 lowest : (d p : ℕ) → d < 16 → part (d + 16 * p) 0 ≡ d
 lowest d p low = omega arith
 
@@ -88,7 +88,7 @@ module _ (cues : ℕ) (h : Held) where
   abbrev m : Meaning
   m = content_meaning content
 
-  -- Where a cue of the book leads.
+  -- Where a cue of the book leads, and what becomes of the parts.
   cue_moves : (p q : ℕ) → q < cues → m.steps.next p q ≡ moved (map terms (take h.count h.rules)) p q
   cue_moves p q here = rw (lt-ltb q cues here) (ap (λ rs. moved rs p q) (held_are h))
 

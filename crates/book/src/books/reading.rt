@@ -15,7 +15,7 @@ impl Book {
     ///
     /// At a position to which a show of the book's cues leads (`behind`), the reading is told of that show and of all that can
     /// follow it.
-    #[tactic(auto, using(crate::proofs::Readings::read_behind, crate::proofs::Readings::one_reading, crate::proofs::Examples::examples_as_told))]
+    #[tactic(auto, using(crate::proofs::Behind::read_behind, crate::proofs::Readings::one_reading, crate::proofs::Examples::examples_as_told))]
     pub fn reading(&self, position: u64, i: u8) -> Result<(Value, u32), ReadingRefusal>
         ensures answer { Read result (book_content self.now) position i }
         ensures behind { ReadBehindShows result self.now position i }
@@ -27,7 +27,7 @@ impl Book {
     }
 
     /// Whether a cue is relevant to rule i at a position: value or permitted cues differ after it.
-    #[tactic(auto, using(crate::proofs::Readings::weighed_behind, crate::proofs::Readings::second_a_not_relevant))]
+    #[tactic(auto, using(crate::proofs::Behind::weighed_behind, crate::proofs::Pending::second_a_not_relevant))]
     pub fn relevance(&self, position: u64, i: u8, cue: u8) -> Result<bool, ReadingRefusal>
         ensures answer { Weighed result (book_content self.now) position i cue }
         ensures behind { WeighedBehindShows result self.now position i cue }
