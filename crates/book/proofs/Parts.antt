@@ -13,7 +13,8 @@ use Rattle.machine.specs.Meaning.{Meaning, leads_to}
 use Rattle.machine.proofs.ByLast.{by_last}
 use Rattle.rules.specs.declared.rules.Rule.{Rule}
 use Rattle.rules.specs.Rule.{Terms, terms, letter_of, step_of, closes_at, state_after, word_of}
-use Rattle.rules.specs.States.{next_state, led}
+use Rattle.rules.specs.States.{led}
+use Rattle.rules.proofs.Numbering.{led_on}
 use Rattle.rules.proofs.Walks.{closes_where_it_holds}
 use Rattle.book.specs.declared.held.Held.{Held}
 use Rattle.book.specs.Held.{held_rules}
@@ -47,7 +48,7 @@ cued_parts k (q ∷ s) v cued = let (front, back) = cued_parts k s v cued.1 in (
 
 -- A show behind another leads a rule on from where the other led it.
 pub led_further : (r : Terms) (s v : Show) → state_after r (s ++ v) ≡ led r.template r.n (state_after r s) (word_of r v)
-led_further r s v = ap (λ w. led r.template r.n 0 w) (map-append (letter_of r) s v) ∙ fold-append (next_state r.template r.n) 0 (word_of r s) (word_of r v)
+led_further r s v = ap (λ w. led r.template r.n 0 w) (map-append (letter_of r) s v) ∙ led_on r.template r.n (word_of r s) (word_of r v)
 
 -- The first rule is the one of number 0.
 first_is : (x r : Terms) (rs : List Terms) → slice_get (x ∷ rs) 0 ≡ Some r → x ≡ r
@@ -99,6 +100,7 @@ module _ (cues : ℕ) (h : Held) where
   kept_part p q i beyond true = ap (λ rs. part (moved rs p q) i) (held_are h) ∙ keeps (take h.count h.rules) p q i (rw (held_are h) at beyond)
   kept_part p q i beyond false = refl
 
+  -- So a book moves and closes part by part.
   pub moves_by_parts : MovesByParts m content
   moves_by_parts = record {
     cues = refl;

@@ -52,6 +52,7 @@ module _ (a b n : ℕ) where
   same_behind_a : (s : Show) → (HoldsOf response s → ⊥) → (v : Show) → after_show response s v ↔ behind a (after_show response s) v
   same_behind_a s pending v = after (back (state_tells response s v)) (after (same_state s v pending) (state_tells response s (a ∷ v)))
 
+-- So what is read behind one more A is what was read before.
 pub second_a_not_relevant : SecondANotRelevant
 unfolding SecondANotRelevant
 second_a_not_relevant count r s is = subst (λ t. let x : Terms = record { template = t; a = r.a; b = r.b; n = r.n } in (HoldsOf x s → ⊥) → Relevant count (after_show x s) x.a → ⊥) (sym is)

@@ -1,11 +1,10 @@
 -- Rules in places: what is held after one is put last, taken out, or given another count.
 -- Assumes nothing.
 use Rattle.std.proofs.Common.{MatchResult, Ok, Err, ◌≡◌, ℕ, zero, suc, ◌+◌, ◌-◌, ◌<◌, ◌≤◌, List, [], ◌∷◌, ◌++◌, length, length-append, map, take, drop, replicate, set, remove, sym, ap, ◌∙◌, arith}
-use Rattle.std.proofs.lemmas.List.{append_assoc, drop_at, get_or-take, length-map, length-take-le, map-append, map-set, length-set, replicate-append-replicate, set_at, set-get_or, drop-set-lt, take_at, take-append-drop, take-map, drop-map}
+use Rattle.std.proofs.lemmas.List.{append_assoc, get_or-take, length-map, length-take-le, map-append, map-set, length-set, replicate-append-replicate, set_at, set-append_left, set-get_or, take_at, take-map, drop-map}
 use Rattle.std.proofs.lemmas.List.Edits.{length-remove, remove-append_left}
 use Rattle.std.proofs.lemmas.Option.{slice_get-get_or}
 use Rattle.rules.specs.declared.rules.Rule.{Rule}
-use Rattle.std.proofs.Math.Seq.{take-set-lt}
 use Rattle.std.proofs.Math.ListN.{get_or-map}
 use Rattle.rules.specs.declared.rules.RuleRefusal.{RuleRefusal}
 use Rattle.rules.specs.declared.rules.RuleRefusal.TheVariants.{CountOutside}
@@ -14,7 +13,7 @@ use Rattle.rules.specs.Naming.{arguments_of}
 use Rattle.rules.specs.Rule.{Terms, terms, retuned, Retuned}
 use Rattle.book.specs.declared.held.Held.{Held}
 use Rattle.std.proofs.Common.{Some, slice_get, slice_index_or, Result}
-use Rattle.book.specs.Held.{most_rules, blank, places_of, held_rules, Tidy, RetunedAt}
+use Rattle.book.specs.Held.{most_rules, blank, places_of, held_rules, filled_up, Tidy, RetunedAt}
 
 -- Taking out of a mapped list.
 map-remove : {X Y : Type 0} (f : X → Y) (xs : List X) (i : ℕ) → map f (remove xs i) ≡ remove (map f xs) i
@@ -37,12 +36,15 @@ module _ (h : Held) (tidy : Tidy h) where
   held_long = length-take-le h.count (places_of h) (omega (arith, places_long, tidy.room))
 
   laid_out : places_of h ≡ held_rules h ++ replicate (most_rules - h.count) blank
-  laid_out = sym (take-append-drop h.count (places_of h)) ∙ ap (λ rest. held_rules h ++ rest) tidy.beyond
+  laid_out = tidy.laid ∙ ap (λ n. held_rules h ++ replicate (most_rules - n) blank) held_long
 
 -- Places of rules and blank ones hold just those rules.
-laid : (h : Held) (rs : List Terms) → length rs ≡ h.count → h.count ≤ most_rules → places_of h ≡ rs ++ replicate (most_rules - h.count) blank → length h.rules ≡ most_rules
+holding : (h : Held) (rs : List Terms) → length rs ≡ h.count → h.count ≤ most_rules → places_of h ≡ rs ++ replicate (most_rules - h.count) blank → length h.rules ≡ most_rules
     → Tidy h × (held_rules h ≡ rs)
-laid h rs long room at all = (record { places = all; room = room; beyond = ap (drop h.count) at ∙ drop_at rs _ h.count long }, ap (take h.count) at ∙ take_at rs _ h.count long)
+holding h rs long room at all = (record { places = all; room = room; laid = at ∙ ap (λ n. rs ++ replicate (most_rules - n) blank) (sym long) ∙ ap filled_up (sym held) }, held)
+  where
+    held : held_rules h ≡ rs
+    held = ap (take h.count) at ∙ take_at rs _ h.count long
 
 module _ (h : Held) (tidy : Tidy h) where
   -- A rule put last.
@@ -50,7 +52,7 @@ module _ (h : Held) (tidy : Tidy h) where
   pushed r room =
       let rs = held_rules h in
       let next : Held = record { rules = set h.rules h.count r; count = h.count + 1 } in
-      laid next (rs ++ terms r ∷ []) (length-append rs _ ∙ omega (arith, held_long h tidy)) (omega arith) at (length-set h.rules h.count r ∙ tidy.places)
+      holding next (rs ++ terms r ∷ []) (length-append rs _ ∙ omega (arith, held_long h tidy)) (omega arith) at (length-set h.rules h.count r ∙ tidy.places)
     where
       at : map terms (set h.rules h.count r) ≡ (held_rules h ++ terms r ∷ []) ++ replicate (most_rules - (h.count + 1)) blank
       at = map-set terms h.rules h.count r
@@ -63,7 +65,7 @@ module _ (h : Held) (tidy : Tidy h) where
   pub removed : (i : ℕ) (rules : List Rule) (y x : Rule) → i < h.count → rules ≡ remove h.rules i ++ y ∷ [] → terms x ≡ blank
       → let next : Held = record { rules = set rules 15 x; count = h.count - 1 } in Tidy next × (held_rules next ≡ remove (held_rules h) i)
   removed i rules y x held turned e =
-      laid (record { rules = set rules 15 x; count = h.count - 1 }) (remove (held_rules h) i) (omega (arith, length-remove (held_rules h) i (omega (arith, held_long h tidy)), held_long h tidy)) (omega (arith, tidy.room)) at
+      holding (record { rules = set rules 15 x; count = h.count - 1 }) (remove (held_rules h) i) (omega (arith, length-remove (held_rules h) i (omega (arith, held_long h tidy)), held_long h tidy)) (omega (arith, tidy.room)) at
       (length-set rules 15 x ∙ ap length turned ∙ length-append (remove h.rules i) _ ∙ length-remove h.rules i (omega (arith, tidy.places, tidy.room)) ∙ tidy.places)
     where
       fewer : List Terms
@@ -91,18 +93,21 @@ module _ (h : Held) (tidy : Tidy h) where
     abbrev next : Held
     next = record { rules = set h.rules i y; count = h.count }
 
-    changed : held_rules next ≡ set (held_rules h) i (terms y)
-    changed = ap (take h.count) (map-set terms h.rules i y) ∙ take-set-lt h.count (places_of h) i (terms y) held
+    -- All places stay, and so do all rules held, but for that one.
+    retuned_places : Tidy next × (held_rules next ≡ set (held_rules h) i (terms y))
+    retuned_places =
+        let inside : i < length (held_rules h) = omega (arith, held_long h tidy) in
+        holding next (set (held_rules h) i (terms y)) (length-set (held_rules h) i (terms y) ∙ held_long h tidy) tidy.room
+        (map-set terms h.rules i y ∙ ap (λ ps. set ps i (terms y)) (laid_out h tidy) ∙ set-append_left (held_rules h) _ i (terms y) inside)
+        (length-set h.rules i y ∙ tidy.places)
 
+    -- The rule stands there before.
     there : slice_get (held_rules h) i ≡ Some (terms x)
     there = slice_get-get_or (held_rules h) i (terms d) (omega (arith, held_long h tidy)) ∙ ap Some (get_or-take h.count (places_of h) i (terms d) held ∙ get_or-map terms h.rules i d)
 
+    -- So it is told.
     pub retuned_tidy : Tidy next
-    retuned_tidy = record {
-      places = length-set h.rules i y ∙ tidy.places;
-      room = tidy.room;
-      beyond = ap (drop h.count) (map-set terms h.rules i y) ∙ drop-set-lt h.count (places_of h) i (terms y) held ∙ tidy.beyond;
-    }
+    retuned_tidy = retuned_places.0
 
     pub retuned_at : RetunedAt i n given h next
     retuned_at = (terms x, there, by_result given told)
@@ -110,5 +115,5 @@ module _ (h : Held) (tidy : Tidy h) where
         by_result : (given : Result Unit RuleRefusal) → Retuned given n x y → MatchResult given
             (λ _. CountRight (arguments_of x.template) n × (held_rules next ≡ set (held_rules h) i (retuned (terms x) n)))
             (λ e. (e ≡ CountOutside) × (CountRight (arguments_of x.template) n → ⊥) × (next ≡ h))
-        by_result (Ok u) (right, e) = (right, changed ∙ ap (set (held_rules h) i) e)
+        by_result (Ok u) (right, e) = (right, retuned_places.1 ∙ ap (set (held_rules h) i) e)
         by_result (Err e) (is, wrong, same) = (is, wrong, ap (λ y. record { rules = set h.rules i y; count = h.count }) same ∙ ap (λ rs. record { rules = rs; count = h.count }) (set-get_or h.rules i d))

@@ -1,4 +1,4 @@
--- Readings: there is one of each outlook, and what holds after the same continuations is read alike.
+-- Readings: two right ones are the same, and what holds after the same continuations is read alike.
 -- Assumes nothing.
 use Rattle.std.proofs.Common.{◌≡◌, ℕ, ◌↔◌, IsTrue, [], ◌∷◌, sym, refl, arith}
 use Rattle.machine.specs.Show.{Show}
@@ -16,7 +16,7 @@ back h = (h.1, h.0)
 pub after : {P Q R : Type 0} → P ↔ Q → Q ↔ R → P ↔ R
 after h g = (λ p. g.0 (h.0 p), λ r. h.1 (g.1 r))
 
--- No two values are right.
+-- Two right values are the same.
 one_value : (count : ℕ) (H : Show → Type 0) (w x : Value) → ValueIs w count H → ValueIs x count H → w ≡ x
 one_value count H HoldsAlways HoldsAlways a b = refl
 one_value count H HoldsAlways Holds a b = absurd (b.1.2 (a.1 b.1.0 b.1.1))

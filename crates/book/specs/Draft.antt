@@ -8,7 +8,7 @@ use Rattle.rules.specs.declared.templates.Template.{Template}
 use Rattle.rules.specs.declared.templates.Arguments.TheVariants.{CueAndCount, TwoCues}
 use Rattle.rules.specs.Form.{CountRight, CuesRight, Right}
 use Rattle.rules.specs.Naming.{template_number, arguments_of}
-use Rattle.rules.specs.Rule.{Terms, terms, kept, retuned, refusal_words}
+use Rattle.rules.specs.Rule.{Terms, terms, kept, retuned, refusal_number, refusal_words}
 use Rattle.book.specs.declared.drafts.Draft.{Draft}
 use Rattle.book.specs.declared.drafts.DraftRefusal.{DraftRefusal}
 use Rattle.book.specs.declared.drafts.DraftRefusal.TheVariants.{NoSuchTemplate, NoSuchCue, CountOutside, SameCue, Full, NoSuchRule}
@@ -47,7 +47,7 @@ NotAdded SameCue c number a b n = OfTemplate number (λ t. CuesBelow c.cues t a 
 NotAdded Full c number a b n = OfTemplate number (λ t. CuesBelow c.cues t a b × Right (arguments_of t) a b n × (Room c → ⊥))
 NotAdded NoSuchRule c number a b n = ⊥
 
--- Looking over what is given of a rule, before there is looked for room.
+-- Looking over what is given of a rule, which comes before looking for room.
 abbrev pub Checked : Result Rule DraftRefusal → ℕ → ℕ → ℕ → ℕ → ℕ → Type 0
 Checked made count number a b n = MatchResult made
     (λ r. OfTemplate number (λ t. CuesBelow count t a b × Right (arguments_of t) a b n × (terms r ≡ kept t a b n)))
@@ -96,8 +96,8 @@ of_rule rule.SameCue = SameCue
 abbrev pub draft_number : DraftRefusal → ℕ
 draft_number NoSuchTemplate = 8
 draft_number NoSuchCue = 9
-draft_number CountOutside = 10
-draft_number SameCue = 11
+draft_number CountOutside = refusal_number rule.CountOutside
+draft_number SameCue = refusal_number rule.SameCue
 draft_number Full = 12
 draft_number NoSuchRule = 13
 

@@ -22,7 +22,7 @@ abbrev counted_a : Template → ℕ → Terms
 counted_a t n = record { template = t; a = 0; b = 0; n = n }
 
 abbrev only_a : Template → Terms
-only_a t = record { template = t; a = 0; b = 0; n = 0 }
+only_a t = counted_a t 0
 
 abbrev a_and_b : Template → Terms
 a_and_b t = record { template = t; a = 0; b = 1; n = 0 }

@@ -1,6 +1,6 @@
 -- The rules that a draft or a book holds, in places of a fixed number.
 -- Assumes nothing.
-use Rattle.std.specs.Prelude.{◌≡◌, ℕ, ◌-◌, ◌≤◌, List, ◌++◌, length, map, take, drop, replicate, set, slice_get, Some, Result, MatchResult}
+use Rattle.std.specs.Prelude.{◌≡◌, ℕ, ◌-◌, ◌≤◌, List, ◌++◌, length, map, take, replicate, set, slice_get, Some, Result, MatchResult}
 use Rattle.rules.specs.declared.templates.Template.TheVariants.{Init}
 use Rattle.rules.specs.declared.rules.RuleRefusal.{RuleRefusal}
 use Rattle.rules.specs.declared.rules.RuleRefusal.TheVariants.{CountOutside}
@@ -24,15 +24,16 @@ places_of h = map terms h.rules
 abbrev pub held_rules : Held → List Terms
 held_rules h = take h.count (places_of h)
 
--- The places with these rules held, and blank beyond.
+-- The places with these rules held, and blank ones beyond.
 abbrev pub filled_up : List Terms → List Terms
 filled_up rs = rs ++ replicate (most_rules - length rs) blank
 
--- There are places for the rules held, and those beyond are blank.
+-- There are places for the rules held, and all places are those rules and blank ones: so the rules held tell all that stands
+-- there.
 pub record Tidy (h : Held) : Type 0 where
   pub places : length h.rules ≡ most_rules
   pub room : h.count ≤ most_rules
-  pub beyond : drop h.count (places_of h) ≡ replicate (most_rules - h.count) blank
+  pub laid : places_of h ≡ filled_up (held_rules h)
 
 -- Giving one of the rules held another count: a right count changes this rule alone, and another changes nothing.
 abbrev pub RetunedAt : ℕ → ℕ → Result Unit RuleRefusal → Held → Held → Type 0

@@ -2,15 +2,13 @@
 -- Assumes nothing.
 use Rattle.std.proofs.Common.{rules, Bool, true, false, if◌then◌else◌, nat_lt, ◌++◌, ◌≡◌, ℕ, zero, suc, ◌*◌, ◌/◌, ◌%◌, ◌^◌, ◌<◌, ◌≤◌, ◌⊎◌, inl, inr, List, [], ◌∷◌, length, map, take, sym, arith}
 use Rattle.std.proofs.lemmas.List.{take-map, length-take}
-use Rattle.std.proofs.lemmas.List.Sums.{fold-append}
 use Rattle.std.proofs.lemmas.Bool.Decides.{nat_tests}
 use Rattle.std.proofs.Math.Nat.{pow-succ'}
 use Rattle.machine.specs.Meaning.{Lawful}
 use Rattle.rules.specs.declared.letters.Letter.{Letter}
 use Rattle.rules.specs.declared.rules.Rule.{Rule}
 use Rattle.rules.specs.Rule.{terms, letter_of, step_of, states_of}
-use Rattle.rules.specs.States.{next_state}
-use Rattle.rules.proofs.Numbering.{rule_states}
+use Rattle.rules.proofs.Numbering.{led_on, rule_states}
 use Rattle.book.specs.declared.books.Book.{Book}
 use Rattle.book.specs.declared.held.Held.{Held}
 use Rattle.book.specs.Held.{most_rules, held_rules}
@@ -25,7 +23,7 @@ step_below r s l low = elim (own_or_not s) [ inl own ↦ among own | inr beyond 
 
     among : s < states_of (terms r) → step_of (terms r) s l < 16
     among own = let (v, by) = (rule_states r).reached s own in
-        let there : step_of (terms r) s l < states_of (terms r) = rw (sym by.1) (rw (sym (fold-append (next_state r.template r.n) 0 v (l ∷ []))) ((rule_states r).within (v ++ l ∷ []))) in
+        let there : step_of (terms r) s l < states_of (terms r) = rw (sym by.1) (rw (sym (led_on r.template r.n v (l ∷ []))) ((rule_states r).within (v ++ l ∷ []))) in
         omega (arith, there, (rule_states r).few)
 
 -- So a position of as many digits as there are rules, or more, leads to one of as many digits.
@@ -38,9 +36,11 @@ moved_below (r ∷ rs) (suc k) p c few low =
     let above = moved_below rs k (p / 16) c (omega arith) (omega (arith, up)) in
     omega (arith, up)
 
+-- So do the rules that are held, from any position.
 held_below : (h : Held) (p c : ℕ) → h.count ≤ most_rules → p < 2 ^ 64 → moved (held_rules h) p c < 2 ^ 64
 held_below h p c room low = rw (take-map terms h.count h.rules) (moved_below (take h.count h.rules) 16 p c (omega (arith, length-take h.count h.rules)) low)
 
+-- The laws of machines.
 pub lawful : (b : Book) → Lawful (book_meaning b)
 lawful b = record {
   some = b.some_cues;

@@ -50,7 +50,7 @@ ReadBehind answer c s i = MatchResult answer
 unfoldable pub ReadBehindShows : Result (Value × ℕ) ReadingRefusal → Book → ℕ → ℕ → Type 0
 ReadBehindShows answer b p i = (s : Show) → Cued b.cues s → p ≡ leads_to (book_meaning b) s → ReadBehind answer (book_content b) s i
 
--- No two readings of a state are right.
+-- Two right readings of a state are the same.
 unfoldable pub OneReading : Type 0
 OneReading = (count : ℕ) (r : Terms) (s : ℕ) (w x : Value) (m n : ℕ) → Reads count (from_state r s) w m → Reads count (from_state r s) x n → (w ≡ x) × (m ≡ n)
 

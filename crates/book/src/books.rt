@@ -2,11 +2,14 @@
 ghost use Rattle.std.specs.Prelude.{◌≤◌};
 ghost use Rattle.book.specs.Held.{Tidy};
 
-use crate::held::Held;
+use crate::held::{Held, MOST_STATES};
 
 mod as_machine;
 mod reading;
 mod sealing;
+
+// A part of a position is a digit to this base.
+const BASE: u64 = MOST_STATES as u64;
 
 /// A book (a constraint set, and the conjunction of its constraints as an automaton): a cue count, and at most 16 rules,
 /// numbered from 0. It takes no rule; it can be reopened as a draft.

@@ -1,5 +1,5 @@
 //! The rules that a draft or a book holds.
-ghost use Rattle.std.specs.Prelude.{◌≡◌, ◌+◌, ◌-◌, ◌<◌, ◌≤◌, ◌++◌, [], ◌∷◌, length, map, remove, slice_get, Some, MatchOption};
+ghost use Rattle.std.specs.Prelude.{◌≡◌, ◌<◌, ◌≤◌, ◌++◌, [], ◌∷◌, length, map, remove, slice_get, Some, MatchOption};
 ghost use Rattle.rules.specs.Rule.{terms};
 ghost use Rattle.book.specs.Held.{most_rules, blank, held_rules, Tidy, RetunedAt};
 
@@ -8,12 +8,15 @@ use rules::{Rule, RuleRefusal, Template};
 /// How many rules a draft or a book holds at most.
 pub(crate) const MOST_RULES: u8 = 16;
 
+/// How many states a rule has at most, and how many a part of a position can tell.
+pub(crate) const MOST_STATES: u8 = 16;
+
 const PLACES: usize = MOST_RULES as usize;
 
 /// Rules in places of a fixed number, those held first and blank ones beyond.
 #[derive(Drop)]
 pub(crate) struct Held {
-    pub(crate) rules: [Rule; PLACES],
+    rules: [Rule; PLACES],
     pub(crate) count: u8,
 }
 

@@ -4,7 +4,7 @@ ghost use Rattle.rules.specs.Rule.{terms};
 ghost use Rattle.book.specs.Book.{book_meaning, moved, all_close};
 ghost use Rattle.book.specs.Law.{lawful};
 
-use super::Book;
+use super::{BASE, Book};
 use machine::Machine;
 use rules::Rule;
 
@@ -33,9 +33,6 @@ impl Machine for Book {
     }
 }
 
-// How many states a part of a position has room for: it is a digit to this base.
-pub(crate) const STATES: u64 = 16;
-
 // The position to which a cue moves the first rule's part and those of the others above it. What lies beyond the last is kept.
 fn moved(rules: &[Rule], position: u64, cue: u8) -> u64
     requires { length rules.now ≤ 16 }
@@ -44,8 +41,8 @@ fn moved(rules: &[Rule], position: u64, cue: u8) -> u64
     let [rule, rest @ ..] = rules else {
         return position;
     };
-    let state = rule.step((position % STATES) as u8, rule.letter(cue));
-    u64::from(state) + STATES * moved(rest, position / STATES, cue)
+    let state = rule.step((position % BASE) as u8, rule.letter(cue));
+    u64::from(state) + BASE * moved(rest, position / BASE, cue)
 }
 
 // Whether the first rule's part may close, and those of the others above it.
@@ -55,7 +52,7 @@ fn all_close(rules: &[Rule], position: u64) -> bool
     match rules {
         [] => true,
         [rule, rest @ ..] => {
-            rule.closes((position % STATES) as u8) && all_close(rest, position / STATES)
+            rule.closes((position % BASE) as u8) && all_close(rest, position / BASE)
         }
     }
 }

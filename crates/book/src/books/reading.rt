@@ -4,7 +4,7 @@ ghost use Rattle.book.specs.Book.{book_content, part};
 ghost use Rattle.book.specs.Examples.{ExamplesAsTold};
 ghost use Rattle.book.specs.Reading.{Stands, Read, ReadBehindShows, OneReading, Weighed, WeighedBehindShows, SecondANotRelevant};
 
-use super::Book;
+use super::{BASE, Book};
 use crate::ahead::Ahead;
 use crate::values::{ReadingRefusal, Value};
 use rules::Rule;
@@ -26,7 +26,7 @@ impl Book {
         Ok(Ahead::of(rule, self.cues).reading(state))
     }
 
-    /// Whether a cue is relevant to rule i at a position: value or permitted cues differ after it.
+    /// Whether a cue is relevant (its execution relevant) to rule i at a position: value or permitted cues differ after it.
     #[tactic(auto, using(crate::proofs::Behind::weighed_behind, crate::proofs::Pending::second_a_not_relevant))]
     pub fn relevance(&self, position: u64, i: u8, cue: u8) -> Result<bool, ReadingRefusal>
         ensures answer { Weighed result (book_content self.now) position i cue }
@@ -58,5 +58,5 @@ fn part(position: u64, i: u8) -> u8
     requires { i < 16 }
     ensures { result ≡ part position i }
 {
-    ((position >> (4 * i)) % 16) as u8
+    ((position >> (4 * i)) % BASE) as u8
 }

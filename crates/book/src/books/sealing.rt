@@ -32,9 +32,10 @@ impl Book {
         Draft { cues, held }
     }
 
-    /// How many rules the book holds.
+    /// How many rules the book holds. The book's whole promise (`allows`) stands here again, for whoever has not seen it sealed.
     pub fn rules(&self) -> u8
-        ensures { result ≡ length (book_content self.now).rules }
+        ensures count { result ≡ length (book_content self.now).rules }
+        ensures allows { AllowsWhatHolds (book_meaning self.now) (book_content self.now) }
     {
         self.held.count
     }

@@ -1,7 +1,6 @@
 //! Beginning a draft, changing its rules, and reading them.
-ghost use Rattle.std.specs.Prelude.{◌≡◌, length, MatchOption};
-ghost use Rattle.rules.specs.Rule.{terms};
-ghost use Rattle.book.specs.Content.{RuleAt, Found};
+ghost use Rattle.std.specs.Prelude.{◌≡◌, length};
+ghost use Rattle.book.specs.Content.{Found};
 ghost use Rattle.book.specs.Draft.{draft_content, begun, Checked, Added, Struck, RetunedRule};
 
 use super::{Draft, DraftRefusal};
@@ -53,8 +52,7 @@ impl Draft {
             Some(rule) if rule.template().arguments() == Arguments::CueAndCount => {}
             _ => return Err(DraftRefusal::NoSuchRule),
         }
-        self.held.retune(i, n)?;
-        Ok(())
+        Ok(self.held.retune(i, n)?)
     }
 
     /// How many cues the draft has.

@@ -1,5 +1,5 @@
 //! What values and the refusals of readings are called.
-ghost use Rattle.std.specs.Prelude.{◌≡◌, Some};
+ghost use Rattle.std.specs.Prelude.{Some};
 ghost use Rattle.book.specs.Value.{value_number};
 ghost use Rattle.book.specs.Reading.{reading_number, reading_words};
 ghost use Rattle.std.proofs.Common.{rules};
