@@ -53,6 +53,7 @@ Checked made count number a b n = MatchResult made
     (λ r. OfTemplate number (λ t. CuesBelow count t a b × Right (arguments_of t) a b n × (terms r ≡ kept t a b n)))
     (λ e. (rs : List Terms) → NotAdded e (record { cues = count; rules = rs }) number a b n)
 
+-- Adding a rule: a right one, where there is room, stands last then; any other is turned down, and the draft is as it was.
 abbrev pub Added : Result Unit DraftRefusal → ℕ → ℕ → ℕ → ℕ → Draft → Draft → Type 0
 Added r number a b n before after = MatchResult r
     (λ _. OfTemplate number (λ t. CuesBelow (draft_content before).cues t a b × Right (arguments_of t) a b n × Room (draft_content before)
@@ -63,6 +64,7 @@ Added r number a b n before after = MatchResult r
 abbrev pub without_rule : Content → ℕ → Content
 without_rule c i = record c { rules = remove c.rules i }
 
+-- Striking rule i: where there is none, it is turned down, and the draft is as it was.
 abbrev pub Struck : Result Unit DraftRefusal → ℕ → Draft → Draft → Type 0
 Struck r i before after = MatchResult r
     (λ _. (i < length (draft_content before).rules) × (draft_content after ≡ without_rule (draft_content before) i))
@@ -82,6 +84,8 @@ NotRetuned NoSuchRule c i n = (r : Terms) → Counted c i r → ⊥
 NotRetuned CountOutside c i n = (r : Terms) × Counted c i r × (CountRight (arguments_of r.template) n → ⊥)
 NotRetuned e c i n = ⊥
 
+-- Giving rule i another count: a right one is kept; any other, or any for a rule that takes none, is turned down, and the draft is
+-- as it was.
 abbrev pub RetunedRule : Result Unit DraftRefusal → ℕ → ℕ → Draft → Draft → Type 0
 RetunedRule g i n before after = MatchResult g
     (λ _. (r : Terms) × Counted (draft_content before) i r × CountRight (arguments_of r.template) n × (draft_content after ≡ with_count (draft_content before) i r n))
