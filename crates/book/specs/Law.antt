@@ -23,7 +23,7 @@ step_below r s l low = elim (own_or_not s) [ inl own ↦ among own | inr beyond 
 
     among : s < states_of (terms r) → step_of (terms r) s l < 16
     among own = let (v, by) = (rule_states r).reached s own in
-        let there : step_of (terms r) s l < states_of (terms r) = rw (sym by.1) (rw (sym (led_on r.template r.n v (l ∷ []))) ((rule_states r).within (v ++ l ∷ []))) in
+        let there : step_of (terms r) s l < states_of (terms r) = rw (sym by.1) (rw (sym (led_on (terms r).template (terms r).n v (l ∷ []))) ((rule_states r).within (v ++ l ∷ []))) in
         omega (arith, there, (rule_states r).few)
 
 -- So a position of as many digits as there are rules, or more, leads to one of as many digits.
