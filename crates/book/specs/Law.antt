@@ -47,7 +47,7 @@ lawful b = record {
   few = b.few_cues;
   stays = λ p c past. grind (arith, nat_tests);
   begins = omega arith;
-  within = λ p c low. within p c low;
+  within = within;
 }
   where
     within : (p c : ℕ) → p < 2 ^ 64 → (book_meaning b).steps.next p c < 2 ^ 64

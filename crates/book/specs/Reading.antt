@@ -65,6 +65,7 @@ WeighedBehind answer c s i q = MatchResult answer
     (λ yes. (r : Terms) × RuleAt c i r × (q < c.cues) × (IsTrue yes ↔ Relevant c.cues (after_show r s) q))
     (λ e. ((e ≡ NoSuchRule) × (length c.rules ≤ i)) ⊎ ((e ≡ NoSuchCue) × (i < length c.rules) × (c.cues ≤ q)))
 
+-- At every position to which a show of the book's cues leads, a cue is weighed as behind that show.
 unfoldable pub WeighedBehindShows : Result Bool ReadingRefusal → Book → ℕ → ℕ → ℕ → Type 0
 WeighedBehindShows answer b p i q = (s : Show) → Cued b.cues s → p ≡ leads_to (book_meaning b) s → WeighedBehind answer (book_content b) s i q
 

@@ -37,7 +37,7 @@ impl Book {
         if cue >= self.cues {
             return Err(ReadingRefusal::NoSuchCue);
         }
-        Ok(Ahead::of(rule, self.cues).turns(at, cue))
+        Ok(Ahead::of(rule, self.cues).is_relevant(at, cue))
     }
 
     // Rule i, and the state of it that the position has.
