@@ -1,0 +1,5 @@
+pub mod Text
+pub mod Names
+pub mod Sheet
+pub mod Fault
+pub mod Reading

@@ -1,0 +1,33 @@
+-- The names of cues: which are the same, and which cue a name is of.
+-- Assumes nothing.
+use Rattle.std.specs.Prelude.{◌≡◌, ℕ, List, length, map, take, slice_get, Some, get_or, []}
+use Rattle.sheet.specs.declared.fields.Field.{Field}
+use Rattle.sheet.specs.declared.fields.Field.TheVariants.{Word, Name, Number}
+use Rattle.sheet.specs.declared.names.Names.{Names}
+use Rattle.sheet.specs.Text.{Text}
+
+-- The bytes of a field.
+abbrev pub field_text : Field → Text
+field_text (Word s) = s.text.now
+field_text (Name s) = s.text.now
+field_text (Number s n) = s.text.now
+
+-- The names, in order.
+abbrev pub names_of : Names → List Text
+names_of ns = take ns.count (map field_text ns.fields)
+
+-- Two names are the same when they have the same bytes.
+abbrev pub SameName : Text → Text → Type 0
+SameName x y = x ≡ y
+
+-- Cue c has this name.
+abbrev pub Named : List Text → Text → ℕ → Type 0
+Named names x c = (y : Text) × (slice_get names c ≡ Some y) × SameName x y
+
+-- No two cues have one name.
+abbrev pub Different : List Text → Type 0
+Different names = (c d : ℕ) (x : Text) → Named names x c → Named names x d → c ≡ d
+
+-- The name of a cue.
+abbrev pub name_of : List Text → ℕ → Text
+name_of names c = get_or names c []

@@ -1,0 +1,16 @@
+//! Sheets: reading a comparison sheet from bytes. Nothing here allocates.
+
+#![tactic(auto)]
+
+mod faults;
+mod fields;
+mod forms;
+mod names;
+mod sheets;
+mod stretches;
+
+pub use faults::{Fault, Layer, ReaderRefusal, Refusal};
+pub use fields::Field;
+pub use names::Names;
+pub use sheets::Sheet;
+pub use stretches::Stretch;

@@ -1,0 +1,31 @@
+//! Parts of a sheet, with their places.
+ghost use Rattle.std.specs.Prelude.{◌≡◌, ◌+◌, ◌≤◌, [], ◌∷◌, length, MatchOption};
+ghost use Rattle.sheet.specs.Text.{parts};
+
+/// How many bytes a sheet has at most.
+pub const MOST_BYTES: usize = 16_384;
+
+/// A part of a sheet with its place: the line in which it stands, from 1, and the byte at which it begins, from 0.
+#[derive(Clone, Copy)]
+pub struct Stretch<'a> {
+    pub(crate) text: &'a [u8],
+    pub(crate) line: u32,
+    pub(crate) at: usize,
+    ghost inside: { at + length text.now ≤ 16384 },
+}
+
+impl<'a> Stretch<'a> {
+    // Cuts at the first byte of a kind, where there is one: what stands before it, and what stands behind.
+    pub(crate) fn cut(&self, byte: u8) -> Option<(Stretch<'a>, Stretch<'a>)>
+        ensures {
+            MatchOption result (parts byte self.now.text.now ≡ self.now.text.now ∷ [])
+                (λ p. (parts byte self.now.text.now ≡ p.0.text.now ∷ parts byte p.1.text.now) × (p.0.line ≡ self.now.line) × (p.0.at ≡ self.now.at)
+                × (p.1.line ≡ self.now.line) × (p.1.at ≡ self.now.at + length p.0.text.now + 1))
+        }
+    {
+        let end = self.text.iter().position(|b| *b == byte)?;
+        let before = Stretch { text: &self.text[..end], line: self.line, at: self.at };
+        let behind = Stretch { text: &self.text[end + 1..], line: self.line, at: self.at + end + 1 };
+        Some((before, behind))
+    }
+}
