@@ -2,6 +2,7 @@
 -- Assumes nothing.
 use Rattle.std.specs.Prelude.{◌≡◌, ℕ, ◌<◌, ◌≤◌, ◌⊎◌, suc, List, [], ◌∷◌, ◌++◌, length, Option, Some, option_map, if◌then◌else◌, nat_lt, ⊤}
 use Rattle.rules.specs.declared.templates.Template.{Template}
+use Rattle.rules.specs.declared.templates.Arguments.{Arguments}
 use Rattle.rules.specs.declared.templates.Arguments.TheVariants.{TwoCues}
 use Rattle.rules.specs.Naming.{template_number, template_word, arguments_of}
 use Rattle.rules.specs.Rule.{Terms}
@@ -46,11 +47,11 @@ IsName P line = (x : Text) × NameForm x × (line ≡ Some (name_line x)) × P x
 abbrev pub BeginsWith : (Text → List Text → Type 0) → Option (List Text) → Type 0
 BeginsWith P line = (w : Text) × (fs : List Text) × (line ≡ Some (w ∷ fs)) × P w fs
 
--- Fields are the arguments of a template, in number and form: names x and y and a count n, as many of them as it takes.
-pub record IsArguments (t : Template) (fs : List Text) (x y : Text) (n : ℕ) : Type 0 where
-  pub are : fs ≡ argument_fields (arguments_of t) x y n
+-- Fields are arguments, in number and form: names x and y and a count n, as many of them as are taken.
+pub record IsArguments (taken : Arguments) (fs : List Text) (x y : Text) (n : ℕ) : Type 0 where
+  pub are : fs ≡ argument_fields taken x y n
   pub first : NameForm x
-  pub second : arguments_of t ≡ TwoCues → NameForm y
+  pub second : taken ≡ TwoCues → NameForm y
   pub count : n ≤ most_count
 
 -- Names x and y, as many as the template takes, are those of cues a and b.
@@ -59,7 +60,7 @@ AreNames names t x y a b = Named names x a × (arguments_of t ≡ TwoCues → Na
 
 -- The line is that of a rule of template t with arguments x, y and n of which this is so.
 abbrev pub IsRule : (Template → Text → Text → ℕ → Type 0) → Option (List Text) → Type 0
-IsRule P line = (t : Template) × (fs : List Text) × (line ≡ Some (template_word t ∷ fs)) × (x y : Text) × (n : ℕ) × IsArguments t fs x y n × P t x y n
+IsRule P line = (t : Template) × (fs : List Text) × (line ≡ Some (template_word t ∷ fs)) × (x y : Text) × (n : ℕ) × IsArguments (arguments_of t) fs x y n × P t x y n
 
 -- Why a section's line fails: it is missing or not of its form; or its count is outside the limits.
 abbrev pub SectionFails : Text → ℕ → ℕ → Option (List Text) → Refusal → Type 0
@@ -77,7 +78,7 @@ NameFails names line r = ⊥
 -- those of the template in number and form; or a cue has no such name; or the draft turns the rule down.
 abbrev pub RuleFails : List Text → List Terms → Option (List Text) → Refusal → Type 0
 RuleFails names rules line (Reader NotInForm) = (BeginsWith (λ w fs. WordForm w) line → ⊥) ⊎
-    BeginsWith (λ w fs. (t : Template) × (w ≡ template_word t) × ((x y : Text) (n : ℕ) → IsArguments t fs x y n → ⊥)) line
+    BeginsWith (λ w fs. (t : Template) × (w ≡ template_word t) × ((x y : Text) (n : ℕ) → IsArguments (arguments_of t) fs x y n → ⊥)) line
 RuleFails names rules line (Reader NoSuchWord) = BeginsWith (λ w fs. WordForm w × ((t : Template) → w ≡ template_word t → ⊥)) line
 RuleFails names rules line (Reader NoSuchName) = IsRule (λ t x y n. (a b : ℕ) → AreNames names t x y a b → ⊥) line
 RuleFails names rules line (Draft e) = IsRule (λ t x y n. (a b : ℕ) × AreNames names t x y a b

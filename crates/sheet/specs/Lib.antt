@@ -1,5 +1,6 @@
 pub mod Text
 pub mod Names
+pub mod Fields
 pub mod Sheet
 pub mod Fault
 pub mod Reading

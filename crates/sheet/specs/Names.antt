@@ -4,13 +4,17 @@ use Rattle.std.specs.Prelude.{◌≡◌, ℕ, List, length, map, take, slice_get
 use Rattle.sheet.specs.declared.fields.Field.{Field}
 use Rattle.sheet.specs.declared.fields.Field.TheVariants.{Word, Name, Number}
 use Rattle.sheet.specs.declared.names.Names.{Names}
+use Rattle.sheet.specs.declared.stretches.Stretch.{Stretch}
 use Rattle.sheet.specs.Text.{Text}
 
--- The bytes of a field.
+-- The part of the sheet where a field stands, and its bytes.
+abbrev pub field_stretch : Field → Stretch
+field_stretch (Word s) = s
+field_stretch (Name s) = s
+field_stretch (Number s n) = s
+
 abbrev pub field_text : Field → Text
-field_text (Word s) = s.text.now
-field_text (Name s) = s.text.now
-field_text (Number s n) = s.text.now
+field_text f = (field_stretch f).text.now
 
 -- The names, in order.
 abbrev pub names_of : Names → List Text

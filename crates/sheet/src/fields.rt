@@ -1,5 +1,10 @@
 //! The fields of a line.
+ghost use Rattle.std.specs.Prelude.{◌≡◌, Some, None, MatchOption};
+ghost use Rattle.sheet.specs.declared.fields.Field.TheVariants.{Word, Name, Number};
+ghost use Rattle.sheet.specs.Names.{field_stretch, field_text};
+ghost use Rattle.sheet.specs.Text.{WordForm, NameForm, IsCount, most_count};
 
+use crate::forms::{count, is_name, is_word};
 use crate::stretches::Stretch;
 
 /// A field of a line: what it was read as, with its part of the sheet.
@@ -11,4 +16,45 @@ pub enum Field<'a> {
     Name(Stretch<'a>),
     /// A count, with the number that it is.
     Number(Stretch<'a>, u16),
+}
+
+impl<'a> Field<'a> {
+    // Reads a part of a line as a word.
+    pub(crate) fn word(text: Stretch<'a>) -> Option<Field<'a>>
+        ensures { MatchOption result (WordForm text.entry.text.now → ⊥) (λ f. (f ≡ Word text.entry) × WordForm text.entry.text.now) }
+    {
+        is_word(text.text).then_some(Field::Word(text))
+    }
+
+    // Reads a part of a line as a name.
+    pub(crate) fn name(text: Stretch<'a>) -> Option<Field<'a>>
+        ensures { MatchOption result (NameForm text.entry.text.now → ⊥) (λ f. (f ≡ Name text.entry) × NameForm text.entry.text.now) }
+    {
+        is_name(text.text).then_some(Field::Name(text))
+    }
+
+    // Reads a part of a line as a count.
+    pub(crate) fn number(text: Stretch<'a>) -> Option<Field<'a>>
+        ensures {
+            MatchOption result (IsCount None text.entry.text.now) (λ f. (n : _) × (f ≡ Number text.entry n) × IsCount (Some n) text.entry.text.now)
+        }
+    {
+        Some(Field::Number(text, count(text.text)?))
+    }
+
+    // The part of the sheet where the field stands.
+    fn stretch(&self) -> Stretch<'a>
+        ensures { result ≡ field_stretch self.now }
+    {
+        match *self {
+            Field::Word(text) | Field::Name(text) | Field::Number(text, _) => text,
+        }
+    }
+
+    /// The field's bytes.
+    pub fn text(&self) -> &'a [u8]
+        ensures { result.now ≡ field_text self.now }
+    {
+        self.stretch().text
+    }
 }

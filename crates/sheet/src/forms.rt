@@ -1,6 +1,6 @@
 //! The forms of names, words and counts.
-ghost use Rattle.std.specs.Prelude.{◌≡◌, ◌+◌, ◌≤◌, ◌↔◌, IsTrue, MatchOption, decimal};
-ghost use Rattle.sheet.specs.Text.{longest_name, most_count, NameForm, WordForm};
+ghost use Rattle.std.specs.Prelude.{◌≡◌, ◌-◌, ◌<◌, ◌≤◌, ◌⊎◌, ◌↔◌, length, IsTrue, MatchOption};
+ghost use Rattle.sheet.specs.Text.{NameForm, WordForm, NumeralForm, IsCount, worth};
 
 const LONGEST_NAME: usize = 16;
 
@@ -21,23 +21,36 @@ pub(crate) fn is_word(text: &[u8]) -> bool
     !text.is_empty() && text.iter().all(|b| b.is_ascii_lowercase() || *b == b'-')
 }
 
-// The number whose count a text is, where it has the form of a count.
+// The number whose decimal text this is, where it has the form of a count.
+#[tactic(auto, using(crate::proofs::Counts::is_count, crate::proofs::Counts::no_count))]
 pub(crate) fn count(text: &[u8]) -> Option<u16>
-    ensures { MatchOption result ((n : _) → n ≤ most_count → text.now ≡ decimal n → ⊥) (λ n. (n ≤ most_count) × (text.now ≡ decimal n)) }
+    ensures { IsCount result text.now }
 {
-    match *text {
-        [a @ b'0'..=b'9'] => Some(digit(a)),
-        [a @ b'1'..=b'9', b @ b'0'..=b'9'] => Some(digit(a) * 10 + digit(b)),
-        [a @ b'1'..=b'9', b @ b'0'..=b'9', c @ b'0'..=b'9'] => Some((digit(a) * 10 + digit(b)) * 10 + digit(c)),
+    if is_numeral(text) { value(text) } else { None }
+}
+
+// Whether a text has digits alone, and begins with 0 only where it is 0 alone.
+fn is_numeral(text: &[u8]) -> bool
+    ensures { IsTrue result ↔ NumeralForm text.now }
+{
+    text.iter().all(|b| b.is_ascii_digit()) && (text.len() == 1 || text.first() != Some(&b'0'))
+}
+
+// What up to three digits are worth, where there are as many and some.
+fn value(digits: &[u8]) -> Option<u16>
+    ensures { MatchOption result (length digits.now ≡ 0 ⊎ 3 < length digits.now) (λ n. (1 ≤ length digits.now) × (length digits.now ≤ 3) × (n ≡ worth digits.now)) }
+{
+    match *digits {
+        [a] => Some(digit(a)),
+        [a, b] => Some(10 * digit(a) + digit(b)),
+        [a, b, c] => Some(100 * digit(a) + 10 * digit(b) + digit(c)),
         _ => None,
     }
 }
 
 // What a digit is worth.
 fn digit(b: u8) -> u16
-    requires least { 48 ≤ b }
-    requires most { b ≤ 57 }
-    ensures { result + 48 ≡ b }
+    ensures { result ≡ b - 48 }
 {
-    u16::from(b - b'0')
+    u16::from(b.saturating_sub(b'0'))
 }

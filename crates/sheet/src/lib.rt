@@ -5,6 +5,7 @@
 mod faults;
 mod fields;
 mod forms;
+mod lines;
 mod names;
 mod sheets;
 mod stretches;

@@ -1,5 +1,5 @@
 //! Parts of a sheet, with their places.
-ghost use Rattle.std.specs.Prelude.{◌≡◌, ◌+◌, ◌≤◌, [], ◌∷◌, length, MatchOption};
+ghost use Rattle.std.specs.Prelude.{◌≡◌, ◌+◌, ◌<◌, ◌≤◌, [], ◌∷◌, length, position, eqb, MatchOption};
 ghost use Rattle.sheet.specs.Text.{parts};
 
 /// How many bytes a sheet has at most.
@@ -15,6 +15,7 @@ pub struct Stretch<'a> {
 }
 
 impl<'a> Stretch<'a> {
+    #[tactic(auto, using(crate::proofs::Cut::uncut))]
     // Cuts at the first byte of a kind, where there is one: what stands before it, and what stands behind.
     pub(crate) fn cut(&self, byte: u8) -> Option<(Stretch<'a>, Stretch<'a>)>
         ensures {
@@ -23,9 +24,16 @@ impl<'a> Stretch<'a> {
                 × (p.1.line ≡ self.now.line) × (p.1.at ≡ self.now.at + length p.0.text.now + 1))
         }
     {
-        let end = self.text.iter().position(|b| *b == byte)?;
+        let end = first(byte, self.text)?;
         let before = Stretch { text: &self.text[..end], line: self.line, at: self.at };
         let behind = Stretch { text: &self.text[end + 1..], line: self.line, at: self.at + end + 1 };
         Some((before, behind))
     }
+}
+
+// Where a byte of a kind stands first, where there is one.
+fn first(byte: u8, text: &[u8]) -> Option<usize>
+    ensures { result ≡ position (λ b. eqb b byte) text.now }
+{
+    text.iter().position(|b| *b == byte)
 }

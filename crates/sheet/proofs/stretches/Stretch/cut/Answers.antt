@@ -1,11 +1,9 @@
-use Rattle.std.proofs.Common.{rules, ◌≡◌, ◌+◌, ◌≤◌, [], ◌∷◌, ◌++◌, length, MatchOption, ℕ, ◌-◌, ◌*◌, ◌<◌, ◌/◌, ◌%◌, Bool, true, false, nat_eq, nat_lt, List, slice_index_or, slice_set, bit_and, bit_or, Fits, w8, w32, w64, Bor, MutBor}
-use Rattle.sheet.specs.Text.{parts}
+use Rattle.std.proofs.Common.{◌≡◌, refl, Some, arith, rules, position, eqb}
+use Rattle.sheet.proofs.Cut.{cut_at}
 use Rattle.sheet.proofs.stretches.Stretch.cut.Goals as goal
 
--- src/fields.rt:16:19
-pub returns-in_err-end : goal.returns-in_err-end
-returns-in_err-end c = ?
-
--- src/fields.rt:9:5
 pub returns : goal.returns
-returns c = ?
+returns c =
+    let found : position (λ b. eqb b c.args.byte) c.args.self.now.text.now ≡ Some c.in_ok-end.end = Prim.search rules in
+    let cut = cut_at _ _ _ found in
+    (cut.1, refl, refl, refl, omega (arith, cut.0))
