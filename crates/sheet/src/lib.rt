@@ -9,6 +9,7 @@ mod lines;
 mod names;
 mod sheets;
 mod stretches;
+mod words;
 
 pub use faults::{Fault, Layer, ReaderRefusal, Refusal};
 pub use fields::Field;

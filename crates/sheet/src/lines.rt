@@ -1,6 +1,6 @@
 //! Lines, read field by field.
 ghost use Rattle.std.specs.Prelude.{◌≡◌, [], ◌∷◌, Some, None, MatchOption};
-ghost use Rattle.sheet.specs.Fields.{left_of};
+ghost use Rattle.sheet.specs.Fields.{InSheet, RestInSheet, left_in};
 ghost use Rattle.sheet.specs.Text.{fields};
 
 use crate::stretches::Stretch;
@@ -11,12 +11,14 @@ const SPACE: u8 = b' ';
 #[derive(Clone, Copy)]
 pub(crate) struct Line<'a> {
     rest: Option<Stretch<'a>>,
+    ghost inside: { RestInSheet rest },
 }
 
 impl<'a> Line<'a> {
     // A whole line.
     pub(crate) fn of(text: Stretch<'a>) -> Line<'a>
-        ensures { left_of result ≡ fields text.entry.text.now }
+        requires { InSheet text }
+        ensures { left_in result.rest ≡ fields text.entry.text.now }
     {
         Line { rest: Some(text) }
     }
@@ -24,8 +26,8 @@ impl<'a> Line<'a> {
     // The next field, where one is left.
     pub(crate) fn field(&mut self) -> Option<Stretch<'a>>
         ensures {
-            MatchOption result ((left_of self.old ≡ []) × (self.new ≡ self.old))
-                (λ s. left_of self.old ≡ s.text.now ∷ left_of self.new)
+            MatchOption result ((left_in self.old.rest ≡ []) × (self.new ≡ self.old))
+                (λ s. left_in self.old.rest ≡ s.text.now ∷ left_in self.new.rest)
         }
     {
         let rest = self.rest?;

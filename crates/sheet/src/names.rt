@@ -1,7 +1,9 @@
-//! The type of cue names.
+//! The type of cue names. Its calls are in the module below.
 ghost use Rattle.std.specs.Prelude.{◌≡◌, ◌≤◌, length};
 
 use crate::fields::Field;
+
+mod naming;
 
 pub(crate) const MOST_NAMES: u8 = 32;
 

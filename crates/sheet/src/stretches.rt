@@ -1,5 +1,6 @@
 //! Parts of a sheet, with their places.
-ghost use Rattle.std.specs.Prelude.{◌≡◌, ◌+◌, ◌<◌, ◌≤◌, [], ◌∷◌, length, position, eqb, MatchOption};
+ghost use Rattle.std.specs.Prelude.{◌≡◌, ◌+◌, [], ◌∷◌, length, position, eqb, MatchOption};
+ghost use Rattle.sheet.specs.Fields.{InSheet};
 ghost use Rattle.sheet.specs.Text.{parts};
 
 /// How many bytes a sheet has at most.
@@ -11,17 +12,22 @@ pub struct Stretch<'a> {
     pub(crate) text: &'a [u8],
     pub(crate) line: u32,
     pub(crate) at: usize,
-    ghost inside: { at + length text.now ≤ 16384 },
 }
 
 impl<'a> Stretch<'a> {
+    // No part.
+    pub(crate) fn nothing() -> Stretch<'a> {
+        Stretch { text: &[], line: 0, at: 0 }
+    }
+
     #[tactic(auto, using(crate::proofs::Cut::uncut))]
     // Cuts at the first byte of a kind, where there is one: what stands before it, and what stands behind.
     pub(crate) fn cut(&self, byte: u8) -> Option<(Stretch<'a>, Stretch<'a>)>
+        requires { InSheet self.now }
         ensures {
             MatchOption result (parts byte self.now.text.now ≡ self.now.text.now ∷ [])
                 (λ p. (parts byte self.now.text.now ≡ p.0.text.now ∷ parts byte p.1.text.now) × (p.0.line ≡ self.now.line) × (p.0.at ≡ self.now.at)
-                × (p.1.line ≡ self.now.line) × (p.1.at ≡ self.now.at + length p.0.text.now + 1))
+                × (p.1.line ≡ self.now.line) × (p.1.at ≡ self.now.at + length p.0.text.now + 1) × InSheet p.1)
         }
     {
         let end = first(byte, self.text)?;

@@ -1,0 +1,79 @@
+//! Taking names, counting them, and looking them up.
+ghost use Rattle.std.specs.Prelude.{◌≡◌, ◌<◌, ◌≤◌, ◌↔◌, [], ◌∷◌, ◌++◌, length, slice_get, IsTrue, Some, MatchOption};
+ghost use Rattle.sheet.specs.Names.{field_text, names_of, Named, SameName};
+
+use super::{MOST_NAMES, Names, PLACES};
+use crate::fields::Field;
+use crate::stretches::Stretch;
+
+impl<'a> Names<'a> {
+    // No name.
+    pub(crate) fn none() -> Names<'a>
+        ensures { names_of result ≡ [] }
+    {
+        Names {
+            fields: [Field::Name(Stretch::nothing()); PLACES],
+            count: 0,
+        }
+    }
+
+    // Takes one name more, as the last.
+    pub(crate) fn push(&mut self, name: Field<'a>)
+        requires room { length (names_of self.old) < 32 }
+        ensures { names_of self.new ≡ names_of self.old ++ field_text name.entry ∷ [] }
+    {
+        self.fields[usize::from(self.count)] = name;
+        self.count += 1;
+    }
+
+    /// How many names there are.
+    pub fn count(&self) -> u8
+        ensures { result ≡ length (names_of self.now) }
+    {
+        self.count
+    }
+
+    /// The name of a cue, where there is such a cue.
+    pub fn name(&self, cue: u8) -> Option<&'a [u8]>
+        ensures {
+            MatchOption result (length (names_of self.now) ≤ cue) (λ x. slice_get (names_of self.now) cue ≡ Some x.now)
+        }
+    {
+        if cue < self.count {
+            Some(self.fields[usize::from(cue)].text())
+        } else {
+            None
+        }
+    }
+
+    /// The cue that has a name, where one has it.
+    pub fn cue(&self, name: &[u8]) -> Option<u8>
+        ensures {
+            MatchOption result ((c : _) → Named (names_of self.now) name.now c → ⊥) (λ c. Named (names_of self.now) name.now c)
+        }
+    {
+        for cue in 0..self.count() {
+            if self.is_named(cue, name) {
+                return Some(cue);
+            }
+        }
+        None
+    }
+
+    // Whether a cue has a name.
+    fn is_named(&self, cue: u8, name: &[u8]) -> bool
+        ensures { IsTrue result ↔ Named (names_of self.now) name.now cue }
+    {
+        match self.name(cue) {
+            Some(own) => same_name(own, name),
+            None => false,
+        }
+    }
+}
+
+// Whether two names are the same.
+fn same_name(one: &[u8], other: &[u8]) -> bool
+    ensures { IsTrue result ↔ SameName one.now other.now }
+{
+    one == other
+}
