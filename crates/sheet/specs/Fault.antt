@@ -54,9 +54,9 @@ pub record IsArguments (taken : Arguments) (fs : List Text) (x y : Text) (n : �
   pub second : taken ≡ TwoCues → NameForm y
   pub count : n ≤ most_count
 
--- Names x and y, as many as the template takes, are those of cues a and b.
-abbrev pub AreNames : List Text → Template → Text → Text → ℕ → ℕ → Type 0
-AreNames names t x y a b = Named names x a × (arguments_of t ≡ TwoCues → Named names y b)
+-- Names x and y, as many as are taken, are those of cues a and b.
+abbrev pub AreNames : List Text → Arguments → Text → Text → ℕ → ℕ → Type 0
+AreNames names taken x y a b = Named names x a × (taken ≡ TwoCues → Named names y b)
 
 -- The line is that of a rule of template t with arguments x, y and n of which this is so.
 abbrev pub IsRule : (Template → Text → Text → ℕ → Type 0) → Option (List Text) → Type 0
@@ -80,8 +80,8 @@ abbrev pub RuleFails : List Text → List Terms → Option (List Text) → Refus
 RuleFails names rules line (Reader NotInForm) = (BeginsWith (λ w fs. WordForm w) line → ⊥) ⊎
     BeginsWith (λ w fs. (t : Template) × (w ≡ template_word t) × ((x y : Text) (n : ℕ) → IsArguments (arguments_of t) fs x y n → ⊥)) line
 RuleFails names rules line (Reader NoSuchWord) = BeginsWith (λ w fs. WordForm w × ((t : Template) → w ≡ template_word t → ⊥)) line
-RuleFails names rules line (Reader NoSuchName) = IsRule (λ t x y n. (a b : ℕ) → AreNames names t x y a b → ⊥) line
-RuleFails names rules line (Draft e) = IsRule (λ t x y n. (a b : ℕ) × AreNames names t x y a b
+RuleFails names rules line (Reader NoSuchName) = IsRule (λ t x y n. (a b : ℕ) → AreNames names (arguments_of t) x y a b → ⊥) line
+RuleFails names rules line (Draft e) = IsRule (λ t x y n. (a b : ℕ) × AreNames names (arguments_of t) x y a b
     × NotAdded e (record { cues = length names; rules = rules }) (template_number t) a b n) line
 RuleFails names rules line r = ⊥
 

@@ -3,4 +3,5 @@ pub mod Names
 pub mod Fields
 pub mod Sheet
 pub mod Fault
+pub mod Lines
 pub mod Reading

@@ -26,6 +26,13 @@ impl<'a> Field<'a> {
         is_word(text.text).then_some(Field::Word(text))
     }
 
+    // Reads a part of a line as a word that is given.
+    pub(crate) fn this_word(text: Stretch<'a>, word: &[u8]) -> Option<Field<'a>>
+        ensures { MatchOption result (text.entry.text.now ≡ word.now → ⊥) (λ f. (f ≡ Word text.entry) × (text.entry.text.now ≡ word.now)) }
+    {
+        (text.text == word).then_some(Field::Word(text))
+    }
+
     // Reads a part of a line as a name.
     pub(crate) fn name(text: Stretch<'a>) -> Option<Field<'a>>
         ensures { MatchOption result (NameForm text.entry.text.now → ⊥) (λ f. (f ≡ Name text.entry) × NameForm text.entry.text.now) }

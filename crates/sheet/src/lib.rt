@@ -7,6 +7,7 @@ mod fields;
 mod forms;
 mod lines;
 mod names;
+mod section_lines;
 mod sheets;
 mod stretches;
 mod words;

@@ -1,0 +1,46 @@
+-- Lines that are read, and what is read of them.
+-- Assumes nothing.
+use Rattle.std.specs.Prelude.{◌≡◌, ℕ, ◌≤◌, List, [], ◌∷◌, length, map, Option, Some, None, option_map, Result, MatchResult, MatchOption, min}
+use Rattle.rules.specs.declared.templates.Arguments.{Arguments}
+use Rattle.rules.specs.declared.templates.Arguments.TheVariants.{CueAndCount, TwoCues}
+use Rattle.rules.specs.declared.templates.Template.{Template}
+use Rattle.rules.specs.Naming.{template_word, arguments_of}
+use Rattle.rules.specs.Rule.{Terms}
+use Rattle.book.specs.declared.drafts.Draft.{Draft}
+use Rattle.book.specs.Draft.{draft_content, with_rule}
+use Rattle.sheet.specs.declared.faults.ReaderRefusal.{ReaderRefusal}
+use Rattle.sheet.specs.declared.faults.ReaderRefusal.TheVariants.{NotInForm, NoSuchWord}
+use Rattle.sheet.specs.declared.faults.Refusal.{Refusal}
+use Rattle.sheet.specs.declared.faults.Refusal.TheVariants.{Reader}
+use Rattle.sheet.specs.declared.fields.Field.{Field}
+use Rattle.sheet.specs.declared.lines.Line.{Line}
+use Rattle.sheet.specs.Fault.{IsSection, IsArguments, AreNames, SectionFails, RuleFails}
+use Rattle.sheet.specs.Fields.{left_in, SecondIs}
+use Rattle.sheet.specs.Names.{field_text}
+use Rattle.sheet.specs.Sheet.{RuleRight, section_line, rule_line}
+use Rattle.sheet.specs.Text.{Text, WordForm}
+
+-- The fields that are left of a line, and those of a line where there is one.
+abbrev pub left_of : Line → List Text
+left_of l = left_in l.rest
+
+abbrev pub fields_in : Option Line → Option (List Text)
+fields_in line = option_map left_of line
+
+-- Reading a section's line: its count, within the limits; or why it fails.
+abbrev pub ReadSection : Result ℕ ReaderRefusal → Text → ℕ → ℕ → Option (List Text) → Type 0
+ReadSection answer word least most line = MatchResult answer
+    (λ n. (least ≤ n) × (n ≤ most) × (line ≡ Some (section_line word n)))
+    (λ e. SectionFails word least most line (Reader e))
+
+-- Reading a rule's arguments: its fields, as a name and what follows it; or none, where they are not in number and form.
+abbrev pub ReadArguments : Option (Field × Option Field) → Arguments → List Text → Type 0
+ReadArguments answer taken fs = MatchOption answer
+    ((x y : Text) (n : ℕ) → IsArguments taken fs x y n → ⊥)
+    (λ p. (y : Text) × (n : ℕ) × IsArguments taken fs (field_text p.0) y n × SecondIs taken p.1 y n)
+
+-- Reading a rule's line: the rule, put last in the draft; or why it fails, and the draft is as it was.
+abbrev pub ReadRule : Result Unit Refusal → List Text → Option (List Text) → Draft → Draft → Type 0
+ReadRule answer names line before after = MatchResult answer
+    (λ _. (r : Terms) × RuleRight (length names) r × (line ≡ Some (rule_line names r)) × (draft_content after ≡ with_rule (draft_content before) r))
+    (λ e. RuleFails names (draft_content before).rules line e × (after ≡ before))
