@@ -1,6 +1,6 @@
 -- Lines that are read, and what is read of them.
 -- Assumes nothing.
-use Rattle.std.specs.Prelude.{◌≡◌, ℕ, ◌≤◌, List, [], ◌∷◌, length, map, Option, Some, None, option_map, Result, MatchResult, MatchOption, min}
+use Rattle.std.specs.Prelude.{◌≡◌, ℕ, ◌≤◌, List, [], ◌∷◌, length, map, Option, Some, None, option_map, Result, MatchResult, MatchOption, min, ⊤}
 use Rattle.rules.specs.declared.templates.Arguments.{Arguments}
 use Rattle.rules.specs.declared.templates.Arguments.TheVariants.{CueAndCount, TwoCues}
 use Rattle.rules.specs.declared.templates.Template.{Template}
@@ -13,10 +13,11 @@ use Rattle.sheet.specs.declared.faults.ReaderRefusal.TheVariants.{NotInForm, NoS
 use Rattle.sheet.specs.declared.faults.Refusal.{Refusal}
 use Rattle.sheet.specs.declared.faults.Refusal.TheVariants.{Reader}
 use Rattle.sheet.specs.declared.fields.Field.{Field}
+use Rattle.sheet.specs.declared.fields.Field.TheVariants.{Name, Number}
 use Rattle.sheet.specs.declared.lines.Line.{Line}
 use Rattle.sheet.specs.Fault.{IsSection, IsArguments, AreNames, SectionFails, RuleFails}
 use Rattle.sheet.specs.Fields.{left_in, SecondIs}
-use Rattle.sheet.specs.Names.{field_text}
+use Rattle.sheet.specs.Names.{Named, field_text}
 use Rattle.sheet.specs.Sheet.{RuleRight, section_line, rule_line}
 use Rattle.sheet.specs.Text.{Text, WordForm}
 
@@ -33,11 +34,38 @@ ReadSection answer word least most line = MatchResult answer
     (λ n. (least ≤ n) × (n ≤ most) × (line ≡ Some (section_line word n)))
     (λ e. SectionFails word least most line (Reader e))
 
+-- Why a line does not begin with the word of a template: its first field is no word; or no template has this word.
+abbrev pub NoTemplate : ReaderRefusal → List Text → Type 0
+NoTemplate NotInForm fs = (w : Text) (more : List Text) → fs ≡ w ∷ more → WordForm w → ⊥
+NoTemplate NoSuchWord fs = (w : Text) × (more : List Text) × (fs ≡ w ∷ more) × WordForm w × ((t : Template) → w ≡ template_word t → ⊥)
+NoTemplate e fs = ⊥
+
+-- Reading the word of a template, first in a line: the template, and what follows; or why that fails.
+abbrev pub ReadTemplate : Result Template ReaderRefusal → List Text → List Text → Type 0
+ReadTemplate answer fs after = MatchResult answer
+    (λ t. fs ≡ template_word t ∷ after)
+    (λ e. NoTemplate e fs)
+
 -- Reading a rule's arguments: its fields, as a name and what follows it; or none, where they are not in number and form.
 abbrev pub ReadArguments : Option (Field × Option Field) → Arguments → List Text → Type 0
 ReadArguments answer taken fs = MatchOption answer
     ((x y : Text) (n : ℕ) → IsArguments taken fs x y n → ⊥)
     (λ p. (y : Text) × (n : ℕ) × IsArguments taken fs (field_text p.0) y n × SecondIs taken p.1 y n)
+
+-- The name that follows, where one does, is that of cue b; the count that follows, where one does, is k, or more than a byte holds.
+abbrev pub SecondNamed : List Text → Option Field → ℕ → Type 0
+SecondNamed names (Some (Name s)) b = Named names s.text.now b
+SecondNamed names second b = ⊤
+
+abbrev pub SecondCounted : Option Field → ℕ → Type 0
+SecondCounted (Some (Number s n)) k = k ≡ min n 255
+SecondCounted second k = ⊤
+
+-- Looking up the names of a rule's arguments: cues and a count; or none, where a cue has no such name.
+abbrev pub ReadCues : Option (ℕ × ℕ × ℕ) → List Text → Field → Option Field → Type 0
+ReadCues answer names first second = MatchOption answer
+    ((a b : ℕ) → Named names (field_text first) a → SecondNamed names second b → ⊥)
+    (λ p. Named names (field_text first) p.0 × SecondNamed names second p.1 × SecondCounted second p.2)
 
 -- Reading a rule's line: the rule, put last in the draft; or why it fails, and the draft is as it was.
 abbrev pub ReadRule : Result Unit Refusal → List Text → Option (List Text) → Draft → Draft → Type 0

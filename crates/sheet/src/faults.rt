@@ -1,6 +1,8 @@
-//! Why a sheet is turned down.
+//! The types of faults: why a sheet is turned down, and in which line. What they are called is in the module below.
 
 use book::DraftRefusal;
+
+mod naming;
 
 /// Why the reader turns a sheet down. A refusal's published number is that of its case.
 #[derive(Clone, Copy, Debug, PartialEq, Eq, Hash)]

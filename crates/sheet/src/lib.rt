@@ -7,6 +7,8 @@ mod fields;
 mod forms;
 mod lines;
 mod names;
+mod reader;
+mod rule_lines;
 mod section_lines;
 mod sheets;
 mod stretches;

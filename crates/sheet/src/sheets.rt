@@ -1,6 +1,8 @@
 //! Sheets.
 
+use crate::faults::Fault;
 use crate::names::Names;
+use crate::reader::Reader;
 use book::Draft;
 
 /// A sheet (the input document of a comparison), as it was read: the names of its cues, and the drafts of the two books that are
@@ -13,4 +15,17 @@ pub struct Sheet<'a> {
     pub left: Draft,
     /// The draft of the right book.
     pub right: Draft,
+}
+
+impl<'a> Sheet<'a> {
+    /// Reads a sheet. It is accepted exactly when it is written as the form asks, and else refused with the first fault in reading
+    /// order.
+    pub fn read(sheet: &'a [u8]) -> Result<Sheet<'a>, Fault> {
+        let mut reader = Reader::over(sheet)?;
+        let names = reader.names()?;
+        let left = reader.book(b"left", &names)?;
+        let right = reader.book(b"right", &names)?;
+        reader.end()?;
+        Ok(Sheet { names, left, right })
+    }
 }
