@@ -16,9 +16,12 @@ field_stretch (Number s n) = s
 abbrev pub field_text : Field → Text
 field_text f = (field_stretch f).text.now
 
--- The names, in order.
+-- The fields in which the names stand, in order, and the names.
+abbrev pub fields_of : Names → List Field
+fields_of ns = take ns.count ns.fields
+
 abbrev pub names_of : Names → List Text
-names_of ns = take ns.count (map field_text ns.fields)
+names_of ns = map field_text (fields_of ns)
 
 -- Two names are the same when they have the same bytes.
 abbrev pub SameName : Text → Text → Type 0

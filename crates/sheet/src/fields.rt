@@ -64,4 +64,18 @@ impl<'a> Field<'a> {
     {
         self.stretch().text
     }
+
+    /// The line in which the field stands, from 1.
+    pub fn line(&self) -> u32
+        ensures { result ≡ (field_stretch self.now).line }
+    {
+        self.stretch().line
+    }
+
+    /// The byte of the sheet at which the field begins, from 0.
+    pub fn at(&self) -> usize
+        ensures { result ≡ (field_stretch self.now).at }
+    {
+        self.stretch().at
+    }
 }

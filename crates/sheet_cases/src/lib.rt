@@ -5,14 +5,10 @@ mod tests {
     use sheet::Sheet;
 
     #[test]
-    fn reads() {
+    fn reads(rt: HostRuntime) {
         match Sheet::read(b"cues 1\nA\nleft 0\nright 0\n") {
-            Ok(sheet) => assert!(sheet.names.count() == 1),
-            Err(_) => assert!(false),
-        }
-        match Sheet::read(b"cues 1\nA\nleft 0\nright 0") {
-            Ok(_) => assert!(false),
-            Err(fault) => assert!(fault.line == 4),
+            Ok(sheet) => assert!(rt; sheet.names.count() == 1),
+            Err(_) => assert!(rt; false),
         }
     }
 }

@@ -1,6 +1,6 @@
 //! Taking names, counting them, and looking them up.
 ghost use Rattle.std.specs.Prelude.{◌≡◌, ◌<◌, ◌≤◌, ◌↔◌, [], ◌∷◌, ◌++◌, length, slice_get, IsTrue, Some, MatchOption};
-ghost use Rattle.sheet.specs.Names.{field_text, names_of, Named, SameName};
+ghost use Rattle.sheet.specs.Names.{field_text, fields_of, names_of, Named, SameName};
 
 use super::{MOST_NAMES, Names, PLACES};
 use crate::fields::Field;
@@ -33,17 +33,22 @@ impl<'a> Names<'a> {
         self.count
     }
 
-    /// The name of a cue, where there is such a cue.
-    pub fn name(&self, cue: u8) -> Option<&'a [u8]>
-        ensures {
-            MatchOption result (length (names_of self.now) ≤ cue) (λ x. slice_get (names_of self.now) cue ≡ Some x.now)
-        }
+    /// The field in which the name of a cue stands, where there is such a cue.
+    pub fn field(&self, cue: u8) -> Option<Field<'a>>
+        ensures { MatchOption result (length (fields_of self.now) ≤ cue) (λ f. slice_get (fields_of self.now) cue ≡ Some f) }
     {
         if cue < self.count {
-            Some(self.fields[usize::from(cue)].text())
+            Some(self.fields[usize::from(cue)])
         } else {
             None
         }
+    }
+
+    /// The name of a cue, where there is such a cue.
+    pub fn name(&self, cue: u8) -> Option<&'a [u8]>
+        ensures { MatchOption result (length (names_of self.now) ≤ cue) (λ x. slice_get (names_of self.now) cue ≡ Some x.now) }
+    {
+        Some(self.field(cue)?.text())
     }
 
     /// The cue that has a name, where one has it.
