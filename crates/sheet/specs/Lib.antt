@@ -5,4 +5,5 @@ pub mod Sheet
 pub mod Naming
 pub mod Fault
 pub mod Lines
+pub mod RuleLines
 pub mod Reading

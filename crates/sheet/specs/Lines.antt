@@ -66,9 +66,3 @@ abbrev pub ReadCues : Option (ℕ × ℕ × ℕ) → List Text → Field → Opt
 ReadCues answer names first second = MatchOption answer
     ((a b : ℕ) → Named names (field_text first) a → SecondNamed names second b → ⊥)
     (λ p. Named names (field_text first) p.0 × SecondNamed names second p.1 × SecondCounted second p.2)
-
--- Reading a rule's line: the rule, put last in the draft; or why it fails, and the draft is as it was.
-abbrev pub ReadRule : Result Unit Refusal → List Text → Option (List Text) → Draft → Draft → Type 0
-ReadRule answer names line before after = MatchResult answer
-    (λ _. (r : Terms) × RuleRight (length names) r × (line ≡ Some (rule_line names r)) × (draft_content after ≡ with_rule (draft_content before) r))
-    (λ e. RuleFails names (draft_content before).rules line e × (after ≡ before))

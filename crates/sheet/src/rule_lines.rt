@@ -3,7 +3,8 @@ ghost use Rattle.std.specs.Prelude.{◌≡◌, [], ◌∷◌, length, Some, Matc
 ghost use Rattle.rules.specs.Naming.{template_word};
 ghost use Rattle.book.specs.Draft.{draft_content};
 ghost use Rattle.sheet.specs.declared.faults.Refusal.TheVariants.{Reader};
-ghost use Rattle.sheet.specs.Lines.{left_of, fields_in, ReadTemplate, ReadArguments, ReadCues, ReadRule};
+ghost use Rattle.sheet.specs.Lines.{left_of, fields_in, ReadTemplate, ReadArguments, ReadCues};
+ghost use Rattle.sheet.specs.RuleLines.{ReadAsked, ReadRule};
 ghost use Rattle.sheet.specs.Names.{field_text, names_of};
 
 use crate::faults::{ReaderRefusal, Refusal};
@@ -15,16 +16,35 @@ use book::Draft;
 use rules::{Arguments, Template};
 use machine::Numbered;
 
+// What a rule's line asks to add: a template, cues A and B, and a count. What the template lacks is 0. A count above 255 is told as
+// 255, which is as much out of its range.
+struct Asked {
+    template: Template,
+    a: u8,
+    b: u8,
+    n: u8,
+}
+
 // Reads a rule's line, and puts the rule last in a draft.
+#[tactic(auto, using(crate::proofs::RuleLine::turned_down, crate::proofs::RuleLine::added))]
 pub(crate) fn rule(line: Option<Line<'_>>, names: &Names<'_>, draft: &mut Draft) -> Result<(), Refusal>
     requires cues { (draft_content draft.old).cues ≡ length (names_of names.now) }
     ensures { ReadRule result (names_of names.now) (fields_in line.entry) draft.old draft.new }
+{
+    let Asked { template, a, b, n } = asked_by(line, names)?;
+    Ok(draft.add(template.number(), a, b, n)?)
+}
+
+// Reads what a rule's line asks to add.
+#[tactic(auto, using(crate::proofs::RuleLine::unknown_name, crate::proofs::RuleLine::is_asked))]
+fn asked_by(line: Option<Line<'_>>, names: &Names<'_>) -> Result<Asked, ReaderRefusal>
+    ensures { ReadAsked result (names_of names.now) (fields_in line.entry) }
 {
     let mut line = line.ok_or(ReaderRefusal::NotInForm)?;
     let template = template(&mut line)?;
     let (first, second) = arguments(template.arguments(), line).ok_or(ReaderRefusal::NotInForm)?;
     let (a, b, n) = cues(names, first, second).ok_or(ReaderRefusal::NoSuchName)?;
-    Ok(draft.add(template.number(), a, b, n)?)
+    Ok(Asked { template, a, b, n })
 }
 
 // Reads the first field of a line as the word of a template.
@@ -52,8 +72,7 @@ fn arguments<'a>(taken: Arguments, mut line: Line<'a>) -> Option<(Field<'a>, Opt
     }
 }
 
-// Looks up the names of a rule's arguments: its cues A and B, and its count, where it has them. A count above 255 is told as 255,
-// which is as much out of a rule's range.
+// Looks up the names of a rule's arguments: its cues A and B, and its count.
 fn cues(names: &Names<'_>, first: Field<'_>, second: Option<Field<'_>>) -> Option<(u8, u8, u8)>
     ensures { ReadCues result (names_of names.now) first.entry second.entry }
 {

@@ -1,6 +1,6 @@
 //! Taking names, counting them, and looking them up.
 ghost use Rattle.std.specs.Prelude.{◌≡◌, ◌<◌, ◌≤◌, ◌↔◌, [], ◌∷◌, ◌++◌, length, slice_get, IsTrue, Some, MatchOption};
-ghost use Rattle.sheet.specs.Names.{field_text, fields_of, names_of, Named, SameName};
+ghost use Rattle.sheet.specs.Names.{fields_of, names_of, Named, SameName};
 
 use super::{MOST_NAMES, Names, PLACES};
 use crate::fields::Field;
@@ -9,7 +9,7 @@ use crate::stretches::Stretch;
 impl<'a> Names<'a> {
     // No name.
     pub(crate) fn none() -> Names<'a>
-        ensures { names_of result ≡ [] }
+        ensures { fields_of result ≡ [] }
     {
         Names {
             fields: [Field::Name(Stretch::nothing()); PLACES],
@@ -19,8 +19,8 @@ impl<'a> Names<'a> {
 
     // Takes one name more, as the last.
     pub(crate) fn push(&mut self, name: Field<'a>)
-        requires room { length (names_of self.old) < 32 }
-        ensures { names_of self.new ≡ names_of self.old ++ field_text name.entry ∷ [] }
+        requires room { length (fields_of self.old) < 32 }
+        ensures { fields_of self.new ≡ fields_of self.old ++ name.entry ∷ [] }
     {
         self.fields[usize::from(self.count)] = name;
         self.count += 1;

@@ -1,7 +1,7 @@
-use Rattle.std.proofs.Common.{arith}
-use Rattle.sheet.proofs.Naming.{filled, names_long}
-use Rattle.sheet.specs.Names.{field_text}
+use Rattle.std.proofs.Common.{arith, refl}
+use Rattle.std.proofs.lemmas.Grind.{take-set_at}
+use Rattle.sheet.proofs.Naming.{fields_long}
 use Rattle.sheet.proofs.names.Names.push.Goals as goal
 
 pub returns : goal.returns
-returns c = rw c.from.ensures (filled field_text _ _ _ (omega (arith, c.requires.room, names_long c.args.self.now, c.args.self.now.places)))
+returns c = rw c.from.ensures (take-set_at c.args.self.now.fields c.args.self.now.count _ c.args.name refl (omega (arith, c.requires.room, fields_long c.args.self.now, c.args.self.now.places)))
