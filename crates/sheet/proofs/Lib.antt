@@ -6,3 +6,4 @@ pub mod ReadBack
 pub mod WordForms
 pub mod Judging
 pub mod OneAnswer
+pub mod Passing

@@ -31,7 +31,7 @@ one_line f (g ∷ fs) h =
     (All-cons (λ b. eqb b line_end ≡ false) space _ refl (one_line g fs (All-tail Solid f (g ∷ fs) h)))
 
 -- What stands before others is the first line.
-leading_first : (x : Text) (more : List Text) → 1 ≤ length more → leading (x ∷ more) ≡ Some x
+pub leading_first : (x : Text) (more : List Text) → 1 ≤ length more → leading (x ∷ more) ≡ Some x
 leading_first x [] h = absurd (omega arith)
 leading_first x (y ∷ more) h = refl
 

@@ -7,3 +7,4 @@ pub mod Fault
 pub mod Lines
 pub mod RuleLines
 pub mod Reading
+pub mod Reader

@@ -1,6 +1,6 @@
 -- Lines that are read, and what is read of them.
 -- Assumes nothing.
-use Rattle.std.specs.Prelude.{◌≡◌, ℕ, ◌≤◌, List, [], ◌∷◌, length, map, Option, Some, None, option_map, Result, MatchResult, MatchOption, min, ⊤}
+use Rattle.std.specs.Prelude.{◌≡◌, ℕ, ◌≤◌, ◌++◌, List, [], ◌∷◌, length, map, Option, Some, None, option_map, Result, MatchResult, MatchOption, min, ⊤}
 use Rattle.rules.specs.declared.templates.Arguments.{Arguments}
 use Rattle.rules.specs.declared.templates.Arguments.TheVariants.{CueAndCount, TwoCues}
 use Rattle.rules.specs.declared.templates.Template.{Template}
@@ -15,11 +15,12 @@ use Rattle.sheet.specs.declared.faults.Refusal.TheVariants.{Reader}
 use Rattle.sheet.specs.declared.fields.Field.{Field}
 use Rattle.sheet.specs.declared.fields.Field.TheVariants.{Name, Number}
 use Rattle.sheet.specs.declared.lines.Line.{Line}
-use Rattle.sheet.specs.Fault.{IsSection, IsArguments, AreNames, SectionFails, RuleFails}
+use Rattle.sheet.specs.declared.names.Names.{Names}
+use Rattle.sheet.specs.Fault.{NameFails, IsSection, IsArguments, AreNames, SectionFails, RuleFails}
 use Rattle.sheet.specs.Fields.{left_in, SecondIs}
-use Rattle.sheet.specs.Names.{Named, field_text}
-use Rattle.sheet.specs.Sheet.{RuleRight, section_line, rule_line}
-use Rattle.sheet.specs.Text.{Text, WordForm}
+use Rattle.sheet.specs.Names.{Named, field_text, names_of}
+use Rattle.sheet.specs.Sheet.{section_line, name_line}
+use Rattle.sheet.specs.Text.{Text, NameForm, WordForm}
 
 -- The fields that are left of a line, and those of a line where there is one.
 abbrev pub left_of : Line → List Text
@@ -66,3 +67,9 @@ abbrev pub ReadCues : Option (ℕ × ℕ × ℕ) → List Text → Field → Opt
 ReadCues answer names first second = MatchOption answer
     ((a b : ℕ) → Named names (field_text first) a → SecondNamed names second b → ⊥)
     (λ p. Named names (field_text first) p.0 × SecondNamed names second p.1 × SecondCounted second p.2)
+
+-- Reading a name's line: the name, taken last; or why it fails, and the names are as they were.
+abbrev pub ReadName : Result Unit ReaderRefusal → Option (List Text) → Names → Names → Type 0
+ReadName answer line before after = MatchResult answer
+    (λ _. (x : Text) × NameForm x × ((c : ℕ) → Named (names_of before) x c → ⊥) × (line ≡ Some (name_line x)) × (names_of after ≡ names_of before ++ x ∷ []))
+    (λ e. NameFails (names_of before) line (Reader e) × (after ≡ before))

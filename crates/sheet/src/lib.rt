@@ -6,6 +6,7 @@ mod faults;
 mod fields;
 mod forms;
 mod lines;
+mod name_lines;
 mod names;
 mod reader;
 mod rule_lines;

@@ -1,5 +1,5 @@
 //! Parts of a sheet, with their places.
-ghost use Rattle.std.specs.Prelude.{◌≡◌, ◌+◌, [], ◌∷◌, length, position, eqb, MatchOption};
+ghost use Rattle.std.specs.Prelude.{◌≡◌, ◌+◌, [], ◌∷◌, ◌++◌, length, position, eqb, MatchOption};
 ghost use Rattle.sheet.specs.Fields.{InSheet};
 ghost use Rattle.sheet.specs.Text.{parts};
 
@@ -26,8 +26,9 @@ impl<'a> Stretch<'a> {
         requires { InSheet self.now }
         ensures {
             MatchOption result (parts byte self.now.text.now ≡ self.now.text.now ∷ [])
-                (λ p. (parts byte self.now.text.now ≡ p.0.text.now ∷ parts byte p.1.text.now) × (p.0.line ≡ self.now.line) × (p.0.at ≡ self.now.at)
-                × (p.1.line ≡ self.now.line) × (p.1.at ≡ self.now.at + length p.0.text.now + 1) × InSheet p.1)
+                (λ p. (parts byte self.now.text.now ≡ p.0.text.now ∷ parts byte p.1.text.now)
+                × (self.now.text.now ≡ p.0.text.now ++ byte ∷ p.1.text.now) × (p.0.line ≡ self.now.line) × (p.0.at ≡ self.now.at)
+                × (p.1.line ≡ self.now.line) × (p.1.at ≡ self.now.at + length p.0.text.now + 1))
         }
     {
         let end = first(byte, self.text)?;

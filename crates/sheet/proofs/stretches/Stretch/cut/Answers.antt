@@ -6,4 +6,4 @@ pub returns : goal.returns
 returns c =
     let found : position (λ b. eqb b c.args.byte) c.args.self.now.text.now ≡ Some c.in_ok-end.end = Prim.search rules in
     let cut = cut_at _ _ _ found in
-    (cut.1, refl, refl, refl, omega (arith, cut.0), Prim.search rules)
+    (cut.1, cut.2, refl, refl, refl, omega (arith, cut.0))

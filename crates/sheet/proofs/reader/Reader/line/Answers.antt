@@ -1,0 +1,23 @@
+use Rattle.std.proofs.Common.{◌≡◌, refl, arith, drop, ◌++◌, ◌∷◌, sym, ◌∙◌, ap, Some}
+use Rattle.sheet.specs.Text.{line_end, fields}
+use Rattle.sheet.proofs.Passing.{all_left, within, next_line, past_line}
+use Rattle.sheet.proofs.reader.Reader.line.Goals as goal
+
+pub invariant_of-self : goal.invariant_of-self
+invariant_of-self c =
+    let r = c.args.self.now in
+    let cut = c.in_ok-line.ensures in
+    record { inside = rw cut.5 (within _ r.at _ _ r.inside (sym (all_left r.sheet.now r.at) ∙ cut.1)); short = r.short; early = omega (arith, cut.5, r.early) }
+
+pub returns : goal.returns
+returns c =
+    let r = c.args.self.now in
+    let cut = c.in_ok-line.ensures in
+    let line = c.in_ok-line.line.text.now in
+    let behind = c.in_ok-line.behind.text.now in
+    let first = next_line (drop r.at r.sheet.now) line behind (rw (all_left r.sheet.now r.at) at cut.0) in
+    (ap Some c.of.ensures ∙ sym first, record {
+      sheet = refl;
+      read = rw (cut.5, c.of.ensures) (past_line r.sheet.now r.at line behind (sym (all_left r.sheet.now r.at) ∙ cut.1));
+      line = refl;
+    })

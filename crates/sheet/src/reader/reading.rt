@@ -1,0 +1,113 @@
+//! Reading line by line.
+ghost use Rattle.std.specs.Prelude.{◌≡◌, ◌<◌, ◌≤◌, [], ◌∷◌, ◌++◌, length, MatchResult};
+ghost use Rattle.book.specs.Draft.{draft_content};
+ghost use Rattle.sheet.specs.Fault.{SectionDue, NameDue, RuleDue, EndDue};
+ghost use Rattle.sheet.specs.Names.{names_of};
+ghost use Rattle.sheet.specs.Reader.{NextLine, ReadLine, TakesName, TakesRule, FaultAfter};
+ghost use Rattle.sheet.specs.Sheet.{section_line};
+
+use super::Reader;
+use crate::faults::{Fault, ReaderRefusal, Refusal};
+use crate::lines::Line;
+use crate::name_lines::name;
+use crate::names::{MOST_NAMES, Names};
+use crate::rule_lines::rule;
+use crate::section_lines::section;
+use crate::stretches::{MOST_BYTES, Stretch};
+use book::Draft;
+
+const LINE_END: u8 = b'\n';
+
+const MOST_RULES: u8 = 16;
+
+impl<'a> Reader<'a> {
+    // Begins to read a sheet, if it is not too long.
+    pub(crate) fn over(sheet: &'a [u8]) -> Result<Reader<'a>, Fault> {
+        if sheet.len() > MOST_BYTES {
+            return Err(Fault {
+                refusal: Refusal::Reader(ReaderRefusal::TooLong),
+                line: 0,
+            });
+        }
+        Ok(Reader { sheet, at: 0, line: 1 })
+    }
+
+    // Reads the section of names.
+    pub(crate) fn names(&mut self) -> Result<Names<'a>, Fault> {
+        let count = self.section(b"cues", 1, MOST_NAMES)?;
+        let mut names = Names::none();
+        for _ in 0..count {
+            self.name(&mut names)?;
+        }
+        Ok(names)
+    }
+
+    // Reads the section of a book over names.
+    pub(crate) fn book(&mut self, word: &[u8], names: &Names<'a>) -> Result<Draft, Fault> {
+        let count = self.section(word, 0, MOST_RULES)?;
+        let mut draft = Draft::begin(names.count());
+        for _ in 0..count {
+            self.rule(names, &mut draft)?;
+        }
+        Ok(draft)
+    }
+
+    // Looks for bytes after the last line.
+    pub(crate) fn end(&self) -> Result<(), Fault>
+        ensures { MatchResult result (λ _. self.now.at ≡ length self.now.sheet.now) (λ f. FaultAfter [] EndDue self.now f) }
+    {
+        if self.at < self.sheet.len() {
+            return Err(Fault {
+                refusal: Refusal::Reader(ReaderRefusal::LeftOver),
+                line: self.line,
+            });
+        }
+        Ok(())
+    }
+
+    // Reads a section's line: its count, within limits.
+    fn section(&mut self, word: &[u8], least: u8, most: u8) -> Result<u8, Fault>
+        ensures {
+            ReadLine result (λ n fs. (least ≤ n) × (n ≤ most) × (fs ≡ section_line word.now n)) (SectionDue word.now least most) self.old self.new
+        }
+    {
+        let number = self.line;
+        section(self.line(), word, least, most).map_err(|refusal| Fault { refusal: refusal.into(), line: number })
+    }
+
+    // Reads a name's line, and takes the name.
+    fn name(&mut self, names: &mut Names<'a>) -> Result<(), Fault>
+        requires room { length (names_of names.old) < 32 }
+        ensures { ReadLine result (λ _ fs. TakesName names.old names.new fs) (NameDue (names_of names.old)) self.old self.new }
+    {
+        let number = self.line;
+        name(self.line(), names).map_err(|refusal| Fault { refusal: refusal.into(), line: number })
+    }
+
+    // Reads a rule's line, and takes the rule.
+    fn rule(&mut self, names: &Names<'a>, draft: &mut Draft) -> Result<(), Fault>
+        requires cues { (draft_content draft.old).cues ≡ length (names_of names.now) }
+        ensures {
+            ReadLine result (λ _ fs. TakesRule (names_of names.now) draft.old draft.new fs)
+                (RuleDue (names_of names.now) (draft_content draft.old).rules) self.old self.new
+        }
+    {
+        let number = self.line;
+        rule(self.line(), names, draft).map_err(|refusal| Fault { refusal, line: number })
+    }
+
+    // The next line, where a whole one is left.
+    fn line(&mut self) -> Option<Line<'a>>
+        ensures { NextLine result self.old self.new }
+    {
+        let rest = Stretch {
+            text: &self.sheet[self.at..],
+            line: self.line,
+            at: self.at,
+        };
+        let (line, behind) = rest.cut(LINE_END)?;
+        self.at = behind.at;
+        self.line += 1;
+        Some(Line::of(line))
+    }
+}
