@@ -7,3 +7,4 @@ pub mod WordForms
 pub mod Judging
 pub mod OneAnswer
 pub mod Passing
+pub mod NameLine

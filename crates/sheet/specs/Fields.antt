@@ -22,6 +22,13 @@ abbrev pub left_in : Option Stretch → List Text
 left_in None = []
 left_in (Some s) = fields s.text.now
 
+-- A part begins where the rest of a line does; and the rest follows a part, with one byte between.
+abbrev pub Begins : Option Stretch → Stretch → Type 0
+Begins rest s = (r : Stretch) × (rest ≡ Some r) × (s.line ≡ r.line) × (s.at ≡ r.at)
+
+abbrev pub Follows : Stretch → Option Stretch → Type 0
+Follows s rest = (r : Stretch) → rest ≡ Some r → (r.line ≡ s.line) × (r.at ≡ s.at + length s.text.now + 1)
+
 -- What a rule's arguments are read as: a name, and a name or a count where a second is taken.
 abbrev pub SecondIs : Arguments → Option Field → Text → ℕ → Type 0
 SecondIs CueAndCount second y n = (s : Stretch) × (second ≡ Some (Number s n))

@@ -16,9 +16,10 @@ use Rattle.sheet.specs.declared.fields.Field.{Field}
 use Rattle.sheet.specs.declared.fields.Field.TheVariants.{Name, Number}
 use Rattle.sheet.specs.declared.lines.Line.{Line}
 use Rattle.sheet.specs.declared.names.Names.{Names}
+use Rattle.sheet.specs.declared.stretches.Stretch.{Stretch}
 use Rattle.sheet.specs.Fault.{NameFails, IsSection, IsArguments, AreNames, SectionFails, RuleFails}
-use Rattle.sheet.specs.Fields.{left_in, SecondIs}
-use Rattle.sheet.specs.Names.{Named, field_text, names_of}
+use Rattle.sheet.specs.Fields.{left_in, Begins, SecondIs}
+use Rattle.sheet.specs.Names.{Named, field_text, fields_of, names_of}
 use Rattle.sheet.specs.Sheet.{section_line, name_line}
 use Rattle.sheet.specs.Text.{Text, NameForm, WordForm}
 
@@ -68,8 +69,18 @@ ReadCues answer names first second = MatchOption answer
     ((a b : ℕ) → Named names (field_text first) a → SecondNamed names second b → ⊥)
     (λ p. Named names (field_text first) p.0 × SecondNamed names second p.1 × SecondCounted second p.2)
 
+-- A part begins where a line does.
+abbrev pub StandsFirst : Option Line → Stretch → Type 0
+StandsFirst line s = (l : Line) × (line ≡ Some l) × Begins l.rest s
+
+-- The line is that of a name, which stands there.
+pub record OnlyName (line : Option Line) (s : Stretch) : Type 0 where
+  pub form : NameForm s.text.now
+  pub reads : fields_in line ≡ Some (name_line s.text.now)
+  pub stands : StandsFirst line s
+
 -- Reading a name's line: the name, taken last; or why it fails, and the names are as they were.
-abbrev pub ReadName : Result Unit ReaderRefusal → Option (List Text) → Names → Names → Type 0
+abbrev pub ReadName : Result Unit ReaderRefusal → Option Line → Names → Names → Type 0
 ReadName answer line before after = MatchResult answer
-    (λ _. (x : Text) × NameForm x × ((c : ℕ) → Named (names_of before) x c → ⊥) × (line ≡ Some (name_line x)) × (names_of after ≡ names_of before ++ x ∷ []))
-    (λ e. NameFails (names_of before) line (Reader e) × (after ≡ before))
+    (λ _. (s : Stretch) × OnlyName line s × ((c : ℕ) → Named (names_of before) s.text.now c → ⊥) × (fields_of after ≡ fields_of before ++ Name s ∷ []))
+    (λ e. NameFails (names_of before) (fields_in line) (Reader e) × (after ≡ before))

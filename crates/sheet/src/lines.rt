@@ -1,7 +1,6 @@
 //! Lines, read field by field.
 ghost use Rattle.std.specs.Prelude.{◌≡◌, [], ◌∷◌, Some, None, MatchOption};
-ghost use Rattle.sheet.specs.Fields.{InSheet, RestInSheet, left_in};
-ghost use Rattle.sheet.specs.Text.{fields};
+ghost use Rattle.sheet.specs.Fields.{InSheet, RestInSheet, Begins, Follows, left_in};
 
 use crate::stretches::Stretch;
 
@@ -18,7 +17,7 @@ impl<'a> Line<'a> {
     // A whole line.
     pub(crate) fn of(text: Stretch<'a>) -> Line<'a>
         requires { InSheet text }
-        ensures { left_in result.rest ≡ fields text.entry.text.now }
+        ensures { result.rest ≡ Some text.entry }
     {
         Line { rest: Some(text) }
     }
@@ -27,7 +26,7 @@ impl<'a> Line<'a> {
     pub(crate) fn field(&mut self) -> Option<Stretch<'a>>
         ensures {
             MatchOption result ((left_in self.old.rest ≡ []) × (self.new ≡ self.old))
-                (λ s. left_in self.old.rest ≡ s.text.now ∷ left_in self.new.rest)
+                (λ s. (left_in self.old.rest ≡ s.text.now ∷ left_in self.new.rest) × Begins self.old.rest s × Follows s self.new.rest)
         }
     {
         let rest = self.rest?;

@@ -2,7 +2,7 @@
 ghost use Rattle.std.specs.Prelude.{◌≡◌, ◌<◌, ◌≤◌, [], ◌∷◌, ◌++◌, length, MatchResult};
 ghost use Rattle.book.specs.Draft.{draft_content};
 ghost use Rattle.sheet.specs.Fault.{SectionDue, NameDue, RuleDue, EndDue};
-ghost use Rattle.sheet.specs.Names.{names_of};
+ghost use Rattle.sheet.specs.Names.{fields_of, names_of};
 ghost use Rattle.sheet.specs.Reader.{NextLine, ReadLine, TakesName, TakesRule, FaultAfter};
 ghost use Rattle.sheet.specs.Sheet.{section_line};
 
@@ -77,8 +77,8 @@ impl<'a> Reader<'a> {
 
     // Reads a name's line, and takes the name.
     fn name(&mut self, names: &mut Names<'a>) -> Result<(), Fault>
-        requires room { length (names_of names.old) < 32 }
-        ensures { ReadLine result (λ _ fs. TakesName names.old names.new fs) (NameDue (names_of names.old)) self.old self.new }
+        requires room { length (fields_of names.old) < 32 }
+        ensures { ReadLine result (λ _ fs. TakesName self.old names.old names.new fs) (NameDue (names_of names.old)) self.old self.new }
     {
         let number = self.line;
         name(self.line(), names).map_err(|refusal| Fault { refusal: refusal.into(), line: number })

@@ -1,4 +1,6 @@
-use Rattle.std.proofs.Common.{◌≡◌, refl, arith, drop, ◌++◌, ◌∷◌, sym, ◌∙◌, ap, Some}
+use Rattle.std.proofs.Common.{◌≡◌, refl, arith, drop, ◌++◌, ◌∷◌, sym, ◌∙◌, ap, Some, rules, List, []}
+use Rattle.sheet.specs.Lines.{left_of}
+use Rattle.sheet.specs.Reader.{Passes}
 use Rattle.sheet.specs.Text.{line_end, fields}
 use Rattle.sheet.proofs.Passing.{all_left, within, next_line, past_line}
 use Rattle.sheet.proofs.reader.Reader.line.Goals as goal
@@ -16,8 +18,9 @@ returns c =
     let line = c.in_ok-line.line.text.now in
     let behind = c.in_ok-line.behind.text.now in
     let first = next_line (drop r.at r.sheet.now) line behind (rw (all_left r.sheet.now r.at) at cut.0) in
-    (ap Some c.of.ensures ∙ sym first, record {
+    let passes : Passes (left_of c.of.result ∷ []) r _ = record {
       sheet = refl;
       read = rw (cut.5, c.of.ensures) (past_line r.sheet.now r.at line behind (sym (all_left r.sheet.now r.at) ∙ cut.1));
       line = refl;
-    })
+    } in
+    (rw c.of.ensures (sym first), record { passes = passes; place = λ s e. Prim.search rules })
