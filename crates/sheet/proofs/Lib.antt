@@ -8,3 +8,4 @@ pub mod Judging
 pub mod OneAnswer
 pub mod Passing
 pub mod NameLine
+pub mod Sections

@@ -1,12 +1,14 @@
 -- A reader that goes through a sheet: how far it is, what it goes past, and the fault that it meets.
 -- Assumes nothing.
-use Rattle.std.specs.Prelude.{◌≡◌, ℕ, ◌+◌, ◌<◌, ◌≤◌, ◌⊎◌, suc, List, [], ◌∷◌, ◌++◌, length, take, drop, flat_map, Option, Some, None, Result, MatchResult, MatchOption}
+use Rattle.std.specs.Prelude.{◌≡◌, ℕ, ◌+◌, ◌<◌, ◌≤◌, ◌⊎◌, suc, List, [], ◌∷◌, ◌++◌, length, take, drop, flat_map, Option, Some, None, Result, MatchResult, MatchOption, slice_get}
 use Rattle.rules.specs.Rule.{Terms}
+use Rattle.book.specs.Content.{Content}
 use Rattle.book.specs.declared.drafts.Draft.{Draft}
 use Rattle.book.specs.Draft.{draft_content, with_rule}
 use Rattle.book.specs.Held.{most_rules}
 use Rattle.sheet.specs.declared.faults.Fault.{Fault}
 use Rattle.sheet.specs.declared.faults.Refusal.{Refusal}
+use Rattle.sheet.specs.declared.fields.Field.{Field}
 use Rattle.sheet.specs.declared.fields.Field.TheVariants.{Name}
 use Rattle.sheet.specs.declared.stretches.Stretch.{Stretch}
 use Rattle.sheet.specs.declared.lines.Line.{Line}
@@ -69,3 +71,39 @@ pub record TakesRule (names : List Text) (before after : Draft) (fs : List Text)
   pub right : RuleRight (length names) rule
   pub reads : fs ≡ rule_line names rule
   pub rules : draft_content after ≡ with_rule (draft_content before) rule
+
+-- Where the name of cue c stands, in a section of n with these names that begins where the reader is.
+abbrev pub Placed : Reader → ℕ → List Text → ℕ → Field → Type 0
+Placed r n names c f = (s : Stretch) × (f ≡ Name s) × (s.line ≡ r.line + 1 + c) × (s.at ≡ r.at + length (flat_map written_line (cues_lines n (take c names))))
+
+-- Names were read, in a section of n: they are in order, the reader is past their lines, and each stands where it does.
+pub record NamesSoFar (n : ℕ) (before after : Reader) (ns : Names) : Type 0 where
+  pub order : NamesInOrder n (names_of ns)
+  pub passes : Passes (cues_lines n (names_of ns)) before after
+  pub places : (c : ℕ) (f : Field) → slice_get (fields_of ns) c ≡ Some f → Placed before n (names_of ns) c f
+
+-- A fault in the section of names: in its own line, or in a name's.
+abbrev pub NamesFault : Reader → Fault → Type 0
+NamesFault before f = FaultAfter [] (SectionDue cues_word 1 most_names) before f
+    ⊎ ((n : ℕ) × (names : List Text) × NamesInOrder n names × (length names < n) × FaultAfter (cues_lines n names) (NameDue names) before f)
+
+-- Reading the section of names.
+abbrev pub ReadNames : Result Names Fault → Reader → Reader → Type 0
+ReadNames answer before after = MatchResult answer (λ ns. NamesSoFar (length (names_of ns)) before after ns) (λ f. NamesFault before f)
+
+-- Rules were read, in a book's section of n: they are right, the reader is past their lines, and the draft holds them.
+pub record RulesSoFar (word : Text) (names : List Text) (n : ℕ) (before after : Reader) (d : Draft) : Type 0 where
+  pub rules : List Terms
+  pub order : RulesInOrder names n rules
+  pub passes : Passes (book_lines word names n rules) before after
+  pub content : draft_content d ≡ record { cues = length names; rules = rules }
+
+-- A fault in a book's section: in its own line, or in a rule's.
+abbrev pub BookFault : Text → List Text → Reader → Fault → Type 0
+BookFault word names before f = FaultAfter [] (SectionDue word 0 most_rules) before f
+    ⊎ ((n : ℕ) × (rules : List Terms) × RulesInOrder names n rules × (length rules < n) × FaultAfter (book_lines word names n rules) (RuleDue names rules) before f)
+
+-- Reading a book's section.
+abbrev pub ReadBook : Result Draft Fault → Text → List Text → Reader → Reader → Type 0
+ReadBook answer word names before after = MatchResult answer
+    (λ d. RulesSoFar word names (length (draft_content d).rules) before after d) (λ f. BookFault word names before f)

@@ -3,7 +3,7 @@ ghost use Rattle.std.specs.Prelude.{◌≡◌, ◌<◌, ◌≤◌, [], ◌∷◌
 ghost use Rattle.book.specs.Draft.{draft_content};
 ghost use Rattle.sheet.specs.Fault.{SectionDue, NameDue, RuleDue, EndDue};
 ghost use Rattle.sheet.specs.Names.{fields_of, names_of};
-ghost use Rattle.sheet.specs.Reader.{NextLine, ReadLine, TakesName, TakesRule, FaultAfter};
+ghost use Rattle.sheet.specs.Reader.{NextLine, ReadLine, ReadNames, ReadBook, TakesName, TakesRule, FaultAfter};
 ghost use Rattle.sheet.specs.Sheet.{section_line};
 
 use super::Reader;
@@ -33,20 +33,25 @@ impl<'a> Reader<'a> {
     }
 
     // Reads the section of names.
-    pub(crate) fn names(&mut self) -> Result<Names<'a>, Fault> {
+    pub(crate) fn names(&mut self) -> Result<Names<'a>, Fault>
+        ensures { ReadNames result self.old self.new }
+    {
         let count = self.section(b"cues", 1, MOST_NAMES)?;
         let mut names = Names::none();
-        for _ in 0..count {
+        while names.count() < count {
             self.name(&mut names)?;
         }
         Ok(names)
     }
 
     // Reads the section of a book over names.
-    pub(crate) fn book(&mut self, word: &[u8], names: &Names<'a>) -> Result<Draft, Fault> {
+    pub(crate) fn book(&mut self, word: &[u8], names: &Names<'a>) -> Result<Draft, Fault>
+        requires some { 1 ≤ length (names_of names.now) }
+        ensures { ReadBook result word.now (names_of names.now) self.old self.new }
+    {
         let count = self.section(word, 0, MOST_RULES)?;
         let mut draft = Draft::begin(names.count());
-        for _ in 0..count {
+        while draft.rules() < count {
             self.rule(names, &mut draft)?;
         }
         Ok(draft)
