@@ -1,7 +1,7 @@
 -- Counts: digits without leading zeros are the decimal text of what they are worth, and a decimal text has that form.
 -- Assumes nothing.
-use Rattle.std.proofs.Common.{◌≡◌, ap, ◌⊎◌, Option, Some, None, MatchOption, inl, inr, ℕ, zero, suc, get_or, ◌≤◌, ◌<◌, ◌+◌, ◌*◌, ◌^◌, List, [], ◌∷◌, All, length, decimal, sym, refl, arith, rules}
-use Rattle.std.proofs.lemmas.Fmt.{decimal-digits_value, digits_decimal, digits_value-decimal, length-decimal-le, decimal_nonempty, first_decimal, decimal_digit}
+use Rattle.std.proofs.Common.{◌≡◌, ap, ◌⊎◌, Option, Some, None, MatchOption, inl, inr, ℕ, zero, suc, get_or, ◌≤◌, ◌<◌, All, length, decimal, sym, arith, rules}
+use Rattle.std.proofs.lemmas.Fmt.{decimal-digits_value, digits_decimal, length-decimal-le, decimal_nonempty, first_decimal, decimal_digit}
 use Rattle.std.proofs.lemmas.List.Elements.{All-cons, All-nil}
 use Rattle.std.proofs.lemmas.Str.Parse.{IsDigitsTest, IsNumeralModel, numerals_by_weight, digits_value_short}
 use Rattle.sheet.specs.Text.{Text, IsDigit, NumeralForm, IsCount, worth, most_count}

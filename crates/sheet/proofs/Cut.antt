@@ -1,6 +1,6 @@
 -- Cutting a text at the first byte of a kind.
 -- Assumes nothing.
-use Rattle.std.proofs.Common.{◌≡◌, ℕ, Bool, true, false, cond, suc, ◌+◌, ◌<◌, ◌≤◌, List, [], ◌∷◌, ◌++◌, All, length, take, drop, eqb, nat_lt, position, Option, Some, None, MatchOption, sym, refl, ap, ◌∙◌, ◌-◌, arith, rules, get_or}
+use Rattle.std.proofs.Common.{◌≡◌, ℕ, ◌+◌, ◌<◌, ◌≤◌, List, [], ◌∷◌, ◌++◌, length, take, drop, eqb, position, Some, None, sym, refl, ap, ◌∙◌, ◌-◌, arith}
 use Rattle.std.specs.List.{position_or_len, join_with_byte}
 use Rattle.std.proofs.lemmas.List.{take_all, length-drop, length-take-le}
 use Rattle.std.proofs.lemmas.List.Sums.{fails_before_first}

@@ -9,3 +9,4 @@ pub mod OneAnswer
 pub mod Passing
 pub mod NameLine
 pub mod Sections
+pub mod Whole

@@ -107,10 +107,10 @@ item {X} P all done x more h e =
     behind_those (y ∷ done) = behind_those done
 
 -- What is due where more items are to come, and where none are.
-more_due : (k n : ℕ) (d e : Due) → k < n → (if nat_lt k n then d else e) ≡ d
+pub more_due : (k n : ℕ) (d e : Due) → k < n → (if nat_lt k n then d else e) ≡ d
 more_due k n d e h = grind (arith, nat_tests)
 
-none_due : (n : ℕ) (d e : Due) → (if nat_lt n n then d else e) ≡ e
+pub none_due : (n : ℕ) (d e : Due) → (if nat_lt n n then d else e) ≡ e
 none_due n d e = grind (arith, nat_tests)
 
 -- The section of names leads to all of them.

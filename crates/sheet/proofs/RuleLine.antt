@@ -1,11 +1,11 @@
 -- What is read of a rule's line.
 -- Assumes nothing.
-use Rattle.std.proofs.Common.{◌≡◌, ℕ, List, [], ◌∷◌, Option, Some, None, length, refl, sym, ◌∙◌, ap, arith, rules, min, get_or}
+use Rattle.std.proofs.Common.{◌≡◌, ℕ, List, [], ◌∷◌, Option, Some, None, length, refl, ◌∙◌, ap, arith, min}
 use Rattle.std.proofs.lemmas.Option.{get_or_from_slice_get}
 use Rattle.rules.specs.declared.templates.Arguments.{Arguments}
 use Rattle.rules.specs.declared.templates.Arguments.TheVariants.{CueAndCount, OneCue, TwoCues}
 use Rattle.rules.specs.declared.templates.Template.{Template}
-use Rattle.rules.specs.Form.{CountRight, CuesRight, Right, InForm, kept_b, kept_n}
+use Rattle.rules.specs.Form.{CountRight, Right, InForm, kept_b, kept_n}
 use Rattle.rules.specs.Naming.{template_number, template_word, arguments_of}
 use Rattle.rules.specs.Rule.{Terms, kept}
 use Rattle.book.specs.Content.{Content}
@@ -17,7 +17,7 @@ use Rattle.sheet.specs.declared.faults.Refusal.TheVariants.{Reader, Draft}
 use Rattle.sheet.specs.declared.fields.Field.{Field}
 use Rattle.sheet.specs.declared.fields.Field.TheVariants.{Name}
 use Rattle.sheet.specs.declared.stretches.Stretch.{Stretch}
-use Rattle.sheet.specs.Fault.{IsArguments, AreNames, RuleFails}
+use Rattle.sheet.specs.Fault.{AreNames, RuleFails}
 use Rattle.sheet.specs.Fields.{SecondIs}
 use Rattle.sheet.specs.Lines.{SecondNamed, SecondCounted, ReadArguments, ReadCues}
 use Rattle.sheet.specs.Names.{Named, field_text, name_of}
@@ -56,7 +56,12 @@ unknown_name names rs line t fs first second reads (y, n, are, is) none =
 pub is_asked : (names : List Text) (line : Option (List Text)) (t : Template) (fs : List Text) (first : Field) (second : Option Field) (a b k : ℕ)
     → line ≡ Some (template_word t ∷ fs) → ReadArguments (Some (first, second)) (arguments_of t) fs → ReadCues (Some (a, b, k)) names first second → AsksFor names line t a b k
 is_asked names line t fs first second a b k reads (y, n, are, is) (first_is, second_is, count_is) = record {
-  fs = fs; x = field_text first; y = y; n = n; reads = reads; arguments = are;
+  fs = fs;
+  x = field_text first;
+  y = y;
+  n = n;
+  reads = reads;
+  arguments = are;
   named = (first_is, names_that_follow names (arguments_of t) second y n b is second_is);
   counted = counts_that_follow (arguments_of t) second y n k is count_is;
 }

@@ -1,26 +1,23 @@
 -- Sections, line by line: what a reader has gone past, what it has taken, and the fault that it meets.
 -- Assumes nothing.
-use Rattle.std.proofs.Common.{◌≡◌, ℕ, zero, suc, ◌+◌, ◌<◌, ◌≤◌, ◌⊎◌, inl, inr, List, [], ◌∷◌, ◌++◌, length, length-append, map, take, drop, slice_get, Some, refl, sym, ap, ◌∙◌, append_assoc, arith, min, max}
+use Rattle.std.proofs.Common.{◌≡◌, ℕ, zero, suc, ◌+◌, ◌<◌, ◌≤◌, ◌⊎◌, inl, inr, List, [], ◌∷◌, ◌++◌, length, length-append, map, take, slice_get, Some, refl, sym, ap, ◌∙◌, append_assoc, arith}
 use Rattle.std.proofs.lemmas.List.{append-nil, append_cancel_left, length-map, length-take-le, map-append, take-append-drop, take-append-le}
 use Rattle.std.proofs.lemmas.List.Concat.{flat_map-append}
-use Rattle.std.proofs.lemmas.List.Elements.{All-nil, All-push}
-use Rattle.std.proofs.lemmas.Option.{slice_get_within}
+use Rattle.std.proofs.lemmas.List.Elements.{All-push}
 use Rattle.std.proofs.Math.Seq.{take-append_seam}
 use Rattle.std.specs.Prelude.{flat_map}
-use Rattle.rules.specs.Rule.{Terms}
 use Rattle.book.specs.Content.{Content}
 use Rattle.book.specs.declared.drafts.Draft.{Draft}
-use Rattle.book.specs.Draft.{draft_content, begun, with_rule}
-use Rattle.book.specs.Held.{most_rules}
+use Rattle.book.specs.Draft.{draft_content, with_rule}
 use Rattle.sheet.specs.declared.faults.Fault.{Fault}
 use Rattle.sheet.specs.declared.fields.Field.{Field}
 use Rattle.sheet.specs.declared.fields.Field.TheVariants.{Name}
 use Rattle.sheet.specs.declared.names.Names.{Names}
 use Rattle.sheet.specs.declared.reader.Reader.{Reader}
 use Rattle.sheet.specs.Fault.{Due, NameDue, RuleDue}
-use Rattle.sheet.specs.Names.{Named, SameName, Different, field_text, fields_of, names_of}
+use Rattle.sheet.specs.Names.{Named, Different, field_text, fields_of, names_of}
 use Rattle.sheet.specs.Reader.{read_by, left_to, Passes, FaultAfter, TakesName, TakesRule, Placed, NamesSoFar, NamesFault, RulesSoFar, BookFault}
-use Rattle.sheet.specs.Sheet.{RuleRight, NamesInOrder, RulesInOrder, cues_word, cues_lines, book_lines, most_names, section_line, name_line, rule_line}
+use Rattle.sheet.specs.Sheet.{RuleRight, cues_word, cues_lines, section_line, name_line, rule_line}
 use Rattle.sheet.specs.Text.{Text, NameForm, written_line}
 
 -- A reader past lines and then past others is past all of them.
@@ -93,8 +90,11 @@ module _ (n : ℕ) (before mid after : Reader) (ns more : Names) (fs : List Text
   pub names_next : NamesSoFar n before after more
   names_next = record {
     order = rw now (record {
-      some = h.order.some; few = h.order.few; room = omega (arith, length-append (names_of ns) (t.name.text.now ∷ []), room);
-      forms = All-push NameForm (names_of ns) t.name.text.now h.order.forms t.form; different = one_more (names_of ns) t.name.text.now h.order.different t.other;
+      some = h.order.some;
+      few = h.order.few;
+      room = omega (arith, length-append (names_of ns) (t.name.text.now ∷ []), room);
+      forms = All-push NameForm (names_of ns) t.name.text.now h.order.forms t.form;
+      different = one_more (names_of ns) t.name.text.now h.order.different t.other;
     });
     passes = rw lines_now (on h.passes p);
     places = λ c f e. placed c f (at_last (fields_of ns) (Name t.name) f c (rw t.taken at e));

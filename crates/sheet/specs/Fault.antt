@@ -6,7 +6,6 @@ use Rattle.rules.specs.declared.templates.Arguments.{Arguments}
 use Rattle.rules.specs.declared.templates.Arguments.TheVariants.{TwoCues}
 use Rattle.rules.specs.Naming.{template_number, template_word, arguments_of}
 use Rattle.rules.specs.Rule.{Terms}
-use Rattle.book.specs.Content.{Content}
 use Rattle.book.specs.Draft.{NotAdded}
 use Rattle.book.specs.Held.{most_rules}
 use Rattle.sheet.specs.declared.faults.Fault.{Fault}

@@ -4,9 +4,8 @@ use Rattle.std.specs.Prelude.{◌≡◌, ℕ, ◌+◌, ◌≤◌, length, List, 
 use Rattle.rules.specs.declared.templates.Arguments.{Arguments}
 use Rattle.rules.specs.declared.templates.Arguments.TheVariants.{CueAndCount, OneCue, TwoCues}
 use Rattle.sheet.specs.declared.fields.Field.{Field}
-use Rattle.sheet.specs.declared.fields.Field.TheVariants.{Word, Name, Number}
+use Rattle.sheet.specs.declared.fields.Field.TheVariants.{Name, Number}
 use Rattle.sheet.specs.declared.stretches.Stretch.{Stretch}
-use Rattle.sheet.specs.Names.{field_text}
 use Rattle.sheet.specs.Sheet.{most_bytes}
 use Rattle.sheet.specs.Text.{Text, fields}
 

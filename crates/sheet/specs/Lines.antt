@@ -1,23 +1,18 @@
 -- Lines that are read, and what is read of them.
 -- Assumes nothing.
-use Rattle.std.specs.Prelude.{◌≡◌, ℕ, ◌≤◌, ◌++◌, List, [], ◌∷◌, length, map, Option, Some, None, option_map, Result, MatchResult, MatchOption, min, ⊤}
+use Rattle.std.specs.Prelude.{◌≡◌, ℕ, ◌≤◌, ◌++◌, List, [], ◌∷◌, Option, Some, option_map, Result, MatchResult, MatchOption, min, ⊤}
 use Rattle.rules.specs.declared.templates.Arguments.{Arguments}
-use Rattle.rules.specs.declared.templates.Arguments.TheVariants.{CueAndCount, TwoCues}
 use Rattle.rules.specs.declared.templates.Template.{Template}
-use Rattle.rules.specs.Naming.{template_word, arguments_of}
-use Rattle.rules.specs.Rule.{Terms}
-use Rattle.book.specs.declared.drafts.Draft.{Draft}
-use Rattle.book.specs.Draft.{draft_content, with_rule}
+use Rattle.rules.specs.Naming.{template_word}
 use Rattle.sheet.specs.declared.faults.ReaderRefusal.{ReaderRefusal}
 use Rattle.sheet.specs.declared.faults.ReaderRefusal.TheVariants.{NotInForm, NoSuchWord}
-use Rattle.sheet.specs.declared.faults.Refusal.{Refusal}
 use Rattle.sheet.specs.declared.faults.Refusal.TheVariants.{Reader}
 use Rattle.sheet.specs.declared.fields.Field.{Field}
 use Rattle.sheet.specs.declared.fields.Field.TheVariants.{Name, Number}
 use Rattle.sheet.specs.declared.lines.Line.{Line}
 use Rattle.sheet.specs.declared.names.Names.{Names}
 use Rattle.sheet.specs.declared.stretches.Stretch.{Stretch}
-use Rattle.sheet.specs.Fault.{NameFails, IsSection, IsArguments, AreNames, SectionFails, RuleFails}
+use Rattle.sheet.specs.Fault.{NameFails, IsArguments, SectionFails}
 use Rattle.sheet.specs.Fields.{left_in, Begins, SecondIs}
 use Rattle.sheet.specs.Names.{Named, field_text, fields_of, names_of}
 use Rattle.sheet.specs.Sheet.{section_line, name_line}

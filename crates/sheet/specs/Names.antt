@@ -1,6 +1,6 @@
 -- The names of cues: which are the same, and which cue a name is of.
 -- Assumes nothing.
-use Rattle.std.specs.Prelude.{◌≡◌, ℕ, List, length, map, take, slice_get, Some, get_or, []}
+use Rattle.std.specs.Prelude.{◌≡◌, ℕ, List, map, take, slice_get, Some, get_or, []}
 use Rattle.sheet.specs.declared.fields.Field.{Field}
 use Rattle.sheet.specs.declared.fields.Field.TheVariants.{Word, Name, Number}
 use Rattle.sheet.specs.declared.names.Names.{Names}

@@ -1,23 +1,21 @@
 -- A reader that goes through a sheet: how far it is, what it goes past, and the fault that it meets.
 -- Assumes nothing.
-use Rattle.std.specs.Prelude.{◌≡◌, ℕ, ◌+◌, ◌<◌, ◌≤◌, ◌⊎◌, suc, List, [], ◌∷◌, ◌++◌, length, take, drop, flat_map, Option, Some, None, Result, MatchResult, MatchOption, slice_get}
+use Rattle.std.specs.Prelude.{◌≡◌, ℕ, ◌+◌, ◌<◌, ◌⊎◌, List, [], ◌∷◌, ◌++◌, length, take, drop, flat_map, Option, Some, Result, MatchResult, MatchOption, slice_get}
 use Rattle.rules.specs.Rule.{Terms}
-use Rattle.book.specs.Content.{Content}
 use Rattle.book.specs.declared.drafts.Draft.{Draft}
 use Rattle.book.specs.Draft.{draft_content, with_rule}
 use Rattle.book.specs.Held.{most_rules}
 use Rattle.sheet.specs.declared.faults.Fault.{Fault}
-use Rattle.sheet.specs.declared.faults.Refusal.{Refusal}
 use Rattle.sheet.specs.declared.fields.Field.{Field}
 use Rattle.sheet.specs.declared.fields.Field.TheVariants.{Name}
 use Rattle.sheet.specs.declared.stretches.Stretch.{Stretch}
 use Rattle.sheet.specs.declared.lines.Line.{Line}
 use Rattle.sheet.specs.declared.names.Names.{Names}
 use Rattle.sheet.specs.declared.reader.Reader.{Reader}
-use Rattle.sheet.specs.Fault.{Due, SectionDue, NameDue, RuleDue, EndDue, Fails, line_of}
+use Rattle.sheet.specs.Fault.{Due, SectionDue, NameDue, RuleDue, Fails, line_of}
 use Rattle.sheet.specs.Lines.{left_of, fields_in}
 use Rattle.sheet.specs.Names.{Named, fields_of, names_of}
-use Rattle.sheet.specs.Sheet.{RuleRight, NamesInOrder, RulesInOrder, cues_word, cues_lines, book_lines, most_names, section_line, name_line, rule_line}
+use Rattle.sheet.specs.Sheet.{RuleRight, NamesInOrder, RulesInOrder, cues_word, cues_lines, book_lines, most_names, name_line, rule_line}
 use Rattle.sheet.specs.Text.{Text, NameForm, written_line}
 
 -- What a reader has read, and what is left.

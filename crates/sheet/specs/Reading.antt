@@ -1,19 +1,29 @@
 -- What reading a sheet answers.
 -- Assumes nothing.
-use Rattle.std.specs.Prelude.{◌≡◌, ◌↔◌, length, Ok, Err, Result}
-use Rattle.book.specs.Content.{Content}
+use Rattle.std.specs.Prelude.{◌≡◌, ℕ, ◌+◌, ◌<◌, ◌↔◌, List, length, take, slice_get, Some, Ok, Err, Result, MatchResult}
 use Rattle.book.specs.Draft.{draft_content}
 use Rattle.sheet.specs.declared.faults.Fault.{Fault}
+use Rattle.sheet.specs.declared.fields.Field.{Field}
+use Rattle.sheet.specs.declared.fields.Field.TheVariants.{Name}
+use Rattle.sheet.specs.declared.reader.Reader.{Reader}
 use Rattle.sheet.specs.declared.sheets.Sheet.{Sheet}
-use Rattle.sheet.specs.Fault.{FaultOf}
-use Rattle.sheet.specs.Names.{names_of}
-use Rattle.sheet.specs.Sheet.{Comparison, WellFormed, written}
+use Rattle.sheet.specs.declared.stretches.Stretch.{Stretch}
+use Rattle.sheet.specs.declared.faults.Refusal.TheVariants as refusal
+use Rattle.sheet.specs.declared.faults.ReaderRefusal.TheVariants.{TooLong}
+use Rattle.sheet.specs.Fault.{FaultInLine, FaultOf}
+use Rattle.sheet.specs.Names.{fields_of, names_of}
+use Rattle.sheet.specs.Sheet.{Comparison, InCues, begins, WellFormed, written, most_bytes}
 use Rattle.sheet.specs.Text.{Text}
 
--- A sheet, as it was read, holds what this says: these names, and two drafts with these rules, in this order, for as many cues as
--- there are names.
+-- The name of cue c stands in line c + 2, behind all lines before.
+abbrev pub InItsLine : List Text → ℕ → Field → Type 0
+InItsLine names c f = (s : Stretch) × (f ≡ Name s) × (s.line ≡ c + 2) × (s.at ≡ length (begins (InCues (length names) (take c names))))
+
+-- A sheet, as it was read, holds what this says: these names, each where it stands, and two drafts with these rules, in this order,
+-- for as many cues as there are names.
 pub record Holds (r : Sheet) (s : Comparison) : Type 0 where
   pub names : names_of r.names ≡ s.names
+  pub places : (c : ℕ) (f : Field) → slice_get (fields_of r.names) c ≡ Some f → InItsLine s.names c f
   pub left : draft_content r.left ≡ record { cues = length s.names; rules = s.left }
   pub right : draft_content r.right ≡ record { cues = length s.names; rules = s.right }
 
@@ -33,3 +43,21 @@ AcceptedWhenWritten answer sheet = (s : Comparison) → Accepts answer s ↔ (We
 -- A sheet is refused with a fault exactly when it has that fault.
 abbrev pub RefusedByItsFault : Result Sheet Fault → Text → Type 0
 RefusedByItsFault answer sheet = (f : Fault) → Refuses answer f ↔ FaultOf sheet f
+
+-- A reader stands before all lines.
+pub record AtStart (r : Reader) : Type 0 where
+  pub at : r.at ≡ 0
+  pub line : r.line ≡ 1
+
+-- Beginning to read: before all lines of the sheet, unless it is too long.
+abbrev pub Begun : Result Reader Fault → Text → Type 0
+Begun answer sheet = MatchResult answer (λ r. (r.sheet.now ≡ sheet) × AtStart r)
+    (λ f. (most_bytes < length sheet) × (f.refusal ≡ refusal.Reader TooLong) × (f.line ≡ 0))
+
+-- Reading a whole sheet, from its start: what it says, and that it is written so; or a fault in one of its lines.
+abbrev pub ReadWhole : Result Sheet Fault → Text → Type 0
+ReadWhole answer sheet = MatchResult answer (λ r. (s : Comparison) × Holds r s × WellFormed s × (written s ≡ sheet)) (λ f. FaultInLine sheet f)
+
+-- Reading a sheet: what it says, and that it is written so; or its fault.
+abbrev pub ReadRightly : Result Sheet Fault → Text → Type 0
+ReadRightly answer sheet = MatchResult answer (λ r. (s : Comparison) × Holds r s × WellFormed s × (written s ≡ sheet)) (λ f. FaultOf sheet f)

@@ -1,6 +1,6 @@
 -- What a sheet says, how it is written, and how much of one stands before a line.
 -- Assumes nothing.
-use Rattle.std.specs.Prelude.{◌≡◌, ℕ, ◌≤◌, List, [], ◌∷◌, ◌++◌, length, map, All, flat_map, decimal, codes, ⊤}
+use Rattle.std.specs.Prelude.{ℕ, ◌≤◌, List, [], ◌∷◌, ◌++◌, length, map, All, flat_map, decimal, codes, ⊤}
 use Rattle.rules.specs.declared.templates.Arguments.{Arguments}
 use Rattle.rules.specs.declared.templates.Arguments.TheVariants.{CueAndCount, OneCue, TwoCues}
 use Rattle.rules.specs.Form.{InForm}

@@ -1,6 +1,6 @@
 -- The bytes of a sheet: its lines, the fields of a line, and the forms that fields have.
 -- Assumes nothing.
-use Rattle.std.specs.Prelude.{◌≡◌, ℕ, ◌≤◌, ◌⊎◌, ◌-◌, ◌+◌, ◌*◌, ◌^◌, List, [], ◌∷◌, ◌++◌, length, get_or, All, Option, Some, None, option_map, MatchOption, eqb, decimal}
+use Rattle.std.specs.Prelude.{◌≡◌, ℕ, ◌≤◌, ◌⊎◌, ◌-◌, ◌+◌, ◌*◌, ◌^◌, List, [], ◌∷◌, ◌++◌, length, get_or, All, Option, Some, None, MatchOption, eqb, decimal}
 use Rattle.std.specs.List.{slice_split, join_with_byte}
 
 -- A text is a list of bytes.

@@ -42,9 +42,7 @@ impl<'a> Field<'a> {
 
     // Reads a part of a line as a count.
     pub(crate) fn number(text: Stretch<'a>) -> Option<Field<'a>>
-        ensures {
-            MatchOption result (IsCount None text.entry.text.now) (λ f. (n : _) × (f ≡ Number text.entry n) × IsCount (Some n) text.entry.text.now)
-        }
+        ensures { MatchOption result (IsCount None text.entry.text.now) (λ f. (n : _) × (f ≡ Number text.entry n) × IsCount (Some n) text.entry.text.now) }
     {
         Some(Field::Number(text, count(text.text)?))
     }

@@ -9,9 +9,7 @@ pub(crate) fn is_name(text: &[u8]) -> bool
     ensures { IsTrue result ↔ NameForm text.now }
 {
     (1..=LONGEST_NAME).contains(&text.len())
-        && text
-            .iter()
-            .all(|b| b.is_ascii_uppercase() || b.is_ascii_digit() || *b == b'-')
+        && text.iter().all(|b| b.is_ascii_uppercase() || b.is_ascii_digit() || *b == b'-')
 }
 
 // Whether a text has the form of a word.

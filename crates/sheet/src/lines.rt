@@ -24,10 +24,8 @@ impl<'a> Line<'a> {
 
     // The next field, where one is left.
     pub(crate) fn field(&mut self) -> Option<Stretch<'a>>
-        ensures {
-            MatchOption result ((left_in self.old.rest ≡ []) × (self.new ≡ self.old))
-                (λ s. (left_in self.old.rest ≡ s.text.now ∷ left_in self.new.rest) × Begins self.old.rest s × Follows s self.new.rest)
-        }
+        ensures { MatchOption result ((left_in self.old.rest ≡ []) × (self.new ≡ self.old))
+            (λ s. (left_in self.old.rest ≡ s.text.now ∷ left_in self.new.rest) × Begins self.old.rest s × Follows s self.new.rest) }
     {
         let rest = self.rest?;
         match rest.cut(SPACE) {

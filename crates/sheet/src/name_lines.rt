@@ -27,9 +27,7 @@ pub(crate) fn name<'a>(line: Option<Line<'a>>, names: &mut Names<'a>) -> Result<
 
 // The name of a line that has nothing else.
 fn only_name(line: Option<Line<'_>>) -> Option<Field<'_>>
-    ensures {
-        MatchOption result (IsName (λ x. ⊤) (fields_in line.entry) → ⊥) (λ f. (s : _) × (f ≡ Name s) × OnlyName line.entry s)
-    }
+    ensures { MatchOption result (IsName (λ x. ⊤) (fields_in line.entry) → ⊥) (λ f. (s : _) × (f ≡ Name s) × OnlyName line.entry s) }
 {
     let mut line = line?;
     let name = Field::name(line.field()?)?;

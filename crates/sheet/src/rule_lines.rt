@@ -13,8 +13,8 @@ use crate::lines::Line;
 use crate::names::Names;
 use crate::words::template_of;
 use book::Draft;
-use rules::{Arguments, Template};
 use machine::Numbered;
+use rules::{Arguments, Template};
 
 // What a rule's line asks to add: a template, cues A and B, and a count. What the template lacks is 0. A count above 255 is told as
 // 255, which is as much out of its range.
@@ -27,7 +27,11 @@ struct Asked {
 
 // Reads a rule's line, and puts the rule last in a draft.
 #[tactic(auto, using(crate::proofs::RuleLine::turned_down, crate::proofs::RuleLine::added))]
-pub(crate) fn rule(line: Option<Line<'_>>, names: &Names<'_>, draft: &mut Draft) -> Result<(), Refusal>
+pub(crate) fn rule(
+    line: Option<Line<'_>>,
+    names: &Names<'_>,
+    draft: &mut Draft,
+) -> Result<(), Refusal>
     requires cues { (draft_content draft.old).cues ≡ length (names_of names.now) }
     ensures { ReadRule result (names_of names.now) (fields_in line.entry) draft.old draft.new }
 {
@@ -51,7 +55,10 @@ fn asked_by(line: Option<Line<'_>>, names: &Names<'_>) -> Result<Asked, ReaderRe
 fn template(line: &mut Line<'_>) -> Result<Template, ReaderRefusal>
     ensures { ReadTemplate result (left_of line.old) (left_of line.new) }
 {
-    let word = line.field().and_then(Field::word).ok_or(ReaderRefusal::NotInForm)?;
+    let word = line
+        .field()
+        .and_then(Field::word)
+        .ok_or(ReaderRefusal::NotInForm)?;
     template_of(word.text()).ok_or(ReaderRefusal::NoSuchWord)
 }
 

@@ -10,7 +10,12 @@ use crate::fields::Field;
 use crate::lines::Line;
 
 // Reads the line of a section: its word, and its count, which lies within limits.
-pub(crate) fn section(line: Option<Line<'_>>, word: &[u8], least: u8, most: u8) -> Result<u8, ReaderRefusal>
+pub(crate) fn section(
+    line: Option<Line<'_>>,
+    word: &[u8],
+    least: u8,
+    most: u8,
+) -> Result<u8, ReaderRefusal>
     ensures { ReadSection result word.now least most (fields_in line.entry) }
 {
     let count = counted(line, word).ok_or(ReaderRefusal::NotInForm)?;
@@ -22,10 +27,8 @@ pub(crate) fn section(line: Option<Line<'_>>, word: &[u8], least: u8, most: u8) 
 
 // The count of a section, where the line is that of the section.
 fn counted(line: Option<Line<'_>>, word: &[u8]) -> Option<u16>
-    ensures {
-        MatchOption result (IsSection word.now (λ n. ⊤) (fields_in line.entry) → ⊥)
-            (λ n. (n ≤ most_count) × (fields_in line.entry ≡ Some (section_line word.now n)))
-    }
+    ensures { MatchOption result (IsSection word.now (λ n. ⊤) (fields_in line.entry) → ⊥)
+        (λ n. (n ≤ most_count) × (fields_in line.entry ≡ Some (section_line word.now n))) }
 {
     let mut line = line?;
     Field::this_word(line.field()?, word)?;

@@ -1,4 +1,5 @@
 //! Sheets.
+ghost use Rattle.sheet.specs.Reading.{AcceptedWhenWritten, RefusedByItsFault};
 
 use crate::faults::Fault;
 use crate::names::Names;
@@ -20,12 +21,11 @@ pub struct Sheet<'a> {
 impl<'a> Sheet<'a> {
     /// Reads a sheet. It is accepted exactly when it is written as the form asks, and else refused with the first fault in reading
     /// order.
-    pub fn read(sheet: &'a [u8]) -> Result<Sheet<'a>, Fault> {
+    pub fn read(sheet: &'a [u8]) -> Result<Sheet<'a>, Fault>
+        ensures accepted { AcceptedWhenWritten result sheet.now }
+        ensures refused { RefusedByItsFault result sheet.now }
+    {
         let mut reader = Reader::over(sheet)?;
-        let names = reader.names()?;
-        let left = reader.book(b"left", &names)?;
-        let right = reader.book(b"right", &names)?;
-        reader.end()?;
-        Ok(Sheet { names, left, right })
+        reader.whole()
     }
 }

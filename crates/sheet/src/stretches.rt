@@ -17,23 +17,33 @@ pub struct Stretch<'a> {
 impl<'a> Stretch<'a> {
     // No part.
     pub(crate) fn nothing() -> Stretch<'a> {
-        Stretch { text: &[], line: 0, at: 0 }
+        Stretch {
+            text: &[],
+            line: 0,
+            at: 0,
+        }
     }
 
     #[tactic(auto, using(crate::proofs::Cut::uncut))]
     // Cuts at the first byte of a kind, where there is one: what stands before it, and what stands behind.
     pub(crate) fn cut(&self, byte: u8) -> Option<(Stretch<'a>, Stretch<'a>)>
         requires { InSheet self.now }
-        ensures {
-            MatchOption result (parts byte self.now.text.now ≡ self.now.text.now ∷ [])
-                (λ p. (parts byte self.now.text.now ≡ p.0.text.now ∷ parts byte p.1.text.now)
-                × (self.now.text.now ≡ p.0.text.now ++ byte ∷ p.1.text.now) × (p.0.line ≡ self.now.line) × (p.0.at ≡ self.now.at)
-                × (p.1.line ≡ self.now.line) × (p.1.at ≡ self.now.at + length p.0.text.now + 1))
-        }
+        ensures { MatchOption result (parts byte self.now.text.now ≡ self.now.text.now ∷ [])
+            (λ p. (parts byte self.now.text.now ≡ p.0.text.now ∷ parts byte p.1.text.now)
+            × (self.now.text.now ≡ p.0.text.now ++ byte ∷ p.1.text.now) × (p.0.line ≡ self.now.line) × (p.0.at ≡ self.now.at)
+            × (p.1.line ≡ self.now.line) × (p.1.at ≡ self.now.at + length p.0.text.now + 1)) }
     {
         let end = first(byte, self.text)?;
-        let before = Stretch { text: &self.text[..end], line: self.line, at: self.at };
-        let behind = Stretch { text: &self.text[end + 1..], line: self.line, at: self.at + end + 1 };
+        let before = Stretch {
+            text: &self.text[..end],
+            line: self.line,
+            at: self.at,
+        };
+        let behind = Stretch {
+            text: &self.text[end + 1..],
+            line: self.line,
+            at: self.at + end + 1,
+        };
         Some((before, behind))
     }
 }

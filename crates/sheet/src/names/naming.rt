@@ -53,9 +53,7 @@ impl<'a> Names<'a> {
 
     /// The cue that has a name, where one has it.
     pub fn cue(&self, name: &[u8]) -> Option<u8>
-        ensures {
-            MatchOption result ((c : _) → Named (names_of self.now) name.now c → ⊥) (λ c. Named (names_of self.now) name.now c)
-        }
+        ensures { MatchOption result ((c : _) → Named (names_of self.now) name.now c → ⊥) (λ c. Named (names_of self.now) name.now c) }
     {
         for cue in 0..self.count() {
             if self.is_named(cue, name) {

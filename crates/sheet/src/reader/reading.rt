@@ -4,6 +4,7 @@ ghost use Rattle.book.specs.Draft.{draft_content};
 ghost use Rattle.sheet.specs.Fault.{SectionDue, NameDue, RuleDue, EndDue};
 ghost use Rattle.sheet.specs.Names.{fields_of, names_of};
 ghost use Rattle.sheet.specs.Reader.{NextLine, ReadLine, ReadNames, ReadBook, TakesName, TakesRule, FaultAfter};
+ghost use Rattle.sheet.specs.Reading.{AtStart, Begun, ReadWhole};
 ghost use Rattle.sheet.specs.Sheet.{section_line};
 
 use super::Reader;
@@ -13,6 +14,7 @@ use crate::name_lines::name;
 use crate::names::{MOST_NAMES, Names};
 use crate::rule_lines::rule;
 use crate::section_lines::section;
+use crate::sheets::Sheet;
 use crate::stretches::{MOST_BYTES, Stretch};
 use book::Draft;
 
@@ -22,18 +24,36 @@ const MOST_RULES: u8 = 16;
 
 impl<'a> Reader<'a> {
     // Begins to read a sheet, if it is not too long.
-    pub(crate) fn over(sheet: &'a [u8]) -> Result<Reader<'a>, Fault> {
+    pub(crate) fn over(sheet: &'a [u8]) -> Result<Reader<'a>, Fault>
+        ensures { Begun result sheet.now }
+    {
         if sheet.len() > MOST_BYTES {
             return Err(Fault {
                 refusal: Refusal::Reader(ReaderRefusal::TooLong),
                 line: 0,
             });
         }
-        Ok(Reader { sheet, at: 0, line: 1 })
+        Ok(Reader {
+            sheet,
+            at: 0,
+            line: 1,
+        })
+    }
+
+    // Reads all of a sheet.
+    pub(crate) fn whole(&mut self) -> Result<Sheet<'a>, Fault>
+        requires start { AtStart self.old }
+        ensures { ReadWhole result self.old.sheet.now }
+    {
+        let names = self.names()?;
+        let left = self.book(b"left", &names)?;
+        let right = self.book(b"right", &names)?;
+        self.end()?;
+        Ok(Sheet { names, left, right })
     }
 
     // Reads the section of names.
-    pub(crate) fn names(&mut self) -> Result<Names<'a>, Fault>
+    fn names(&mut self) -> Result<Names<'a>, Fault>
         ensures { ReadNames result self.old self.new }
     {
         let count = self.section(b"cues", 1, MOST_NAMES)?;
@@ -45,7 +65,7 @@ impl<'a> Reader<'a> {
     }
 
     // Reads the section of a book over names.
-    pub(crate) fn book(&mut self, word: &[u8], names: &Names<'a>) -> Result<Draft, Fault>
+    fn book(&mut self, word: &[u8], names: &Names<'a>) -> Result<Draft, Fault>
         requires some { 1 ≤ length (names_of names.now) }
         ensures { ReadBook result word.now (names_of names.now) self.old self.new }
     {
@@ -58,7 +78,7 @@ impl<'a> Reader<'a> {
     }
 
     // Looks for bytes after the last line.
-    pub(crate) fn end(&self) -> Result<(), Fault>
+    fn end(&self) -> Result<(), Fault>
         ensures { MatchResult result (λ _. self.now.at ≡ length self.now.sheet.now) (λ f. FaultAfter [] EndDue self.now f) }
     {
         if self.at < self.sheet.len() {
@@ -72,12 +92,13 @@ impl<'a> Reader<'a> {
 
     // Reads a section's line: its count, within limits.
     fn section(&mut self, word: &[u8], least: u8, most: u8) -> Result<u8, Fault>
-        ensures {
-            ReadLine result (λ n fs. (least ≤ n) × (n ≤ most) × (fs ≡ section_line word.now n)) (SectionDue word.now least most) self.old self.new
-        }
+        ensures { ReadLine result (λ n fs. (least ≤ n) × (n ≤ most) × (fs ≡ section_line word.now n)) (SectionDue word.now least most) self.old self.new }
     {
         let number = self.line;
-        section(self.line(), word, least, most).map_err(|refusal| Fault { refusal: refusal.into(), line: number })
+        section(self.line(), word, least, most).map_err(|refusal| Fault {
+            refusal: refusal.into(),
+            line: number,
+        })
     }
 
     // Reads a name's line, and takes the name.
@@ -86,19 +107,23 @@ impl<'a> Reader<'a> {
         ensures { ReadLine result (λ _ fs. TakesName self.old names.old names.new fs) (NameDue (names_of names.old)) self.old self.new }
     {
         let number = self.line;
-        name(self.line(), names).map_err(|refusal| Fault { refusal: refusal.into(), line: number })
+        name(self.line(), names).map_err(|refusal| Fault {
+            refusal: refusal.into(),
+            line: number,
+        })
     }
 
     // Reads a rule's line, and takes the rule.
     fn rule(&mut self, names: &Names<'a>, draft: &mut Draft) -> Result<(), Fault>
         requires cues { (draft_content draft.old).cues ≡ length (names_of names.now) }
-        ensures {
-            ReadLine result (λ _ fs. TakesRule (names_of names.now) draft.old draft.new fs)
-                (RuleDue (names_of names.now) (draft_content draft.old).rules) self.old self.new
-        }
+        ensures { ReadLine result (λ _ fs. TakesRule (names_of names.now) draft.old draft.new fs)
+            (RuleDue (names_of names.now) (draft_content draft.old).rules) self.old self.new }
     {
         let number = self.line;
-        rule(self.line(), names, draft).map_err(|refusal| Fault { refusal, line: number })
+        rule(self.line(), names, draft).map_err(|refusal| Fault {
+            refusal,
+            line: number,
+        })
     }
 
     // The next line, where a whole one is left.

@@ -9,4 +9,4 @@ pub returns-in_err-a : goal.returns-in_err-a
 returns-in_err-a c =
     let e : c.from_residual-in_err-a.result ≡ Err NoSuchName = Prim.search rules in
     rw e (λ rs. unknown_name (names_of c.args.names.now) rs (fields_in c.args.line) c.in_ok-template.template (left_of c.template.new.line) c.in_ok-first.first c.in_ok-first.second
-        (Prim.search rules) (Prim.search rules) (Prim.search rules))
+    (Prim.search rules) (Prim.search rules) (Prim.search rules))

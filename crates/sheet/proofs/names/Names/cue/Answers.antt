@@ -1,4 +1,4 @@
-use Rattle.std.proofs.Common.{arith, rules}
+use Rattle.std.proofs.Common.{arith}
 use Rattle.std.proofs.lemmas.Option.{slice_get_within}
 use Rattle.sheet.specs.Names.{names_of, Named}
 use Rattle.sheet.proofs.Naming.{below_next}

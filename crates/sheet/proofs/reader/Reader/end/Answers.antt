@@ -1,4 +1,4 @@
-use Rattle.std.proofs.Common.{refl, arith, ap, length, sym}
+use Rattle.std.proofs.Common.{refl, arith, ap, length}
 use Rattle.std.proofs.lemmas.List.{length-drop}
 use Rattle.sheet.specs.Reader.{left_to}
 use Rattle.sheet.proofs.reader.Reader.end.Goals as goal

@@ -1,7 +1,6 @@
-use Rattle.std.proofs.Common.{◌≡◌, refl, arith, drop, ◌++◌, ◌∷◌, sym, ◌∙◌, ap, Some, rules, List, []}
+use Rattle.std.proofs.Common.{refl, arith, drop, ◌∷◌, sym, ◌∙◌, rules, []}
 use Rattle.sheet.specs.Lines.{left_of}
 use Rattle.sheet.specs.Reader.{Passes}
-use Rattle.sheet.specs.Text.{line_end, fields}
 use Rattle.sheet.proofs.Passing.{all_left, within, next_line, past_line}
 use Rattle.sheet.proofs.reader.Reader.line.Goals as goal
 

@@ -1,5 +1,4 @@
-use Rattle.std.proofs.Common.{◌≡◌, Err, ◌<◌, length, arith, rules}
-use Rattle.sheet.specs.Names.{names_of}
+use Rattle.std.proofs.Common.{◌≡◌, Err, arith, rules}
 use Rattle.sheet.proofs.Sections.{names_next, names_fault}
 use Rattle.sheet.proofs.reader.Reader.names.Goals as goal
 

@@ -1,0 +1,8 @@
+use Rattle.sheet.proofs.Whole.{rightly, accepted_when_written, refused_by_its_fault}
+use Rattle.sheet.proofs.sheets.Sheet.read.Goals as goal
+
+pub returns-clause-accepted : goal.returns-clause-accepted
+returns-clause-accepted c = accepted_when_written c.whole.result _ (rightly c.whole.result c.in_ok-reader.reader c.args.sheet.now c.in_ok-reader.ensures.0 c.whole.ensures)
+
+pub returns-clause-refused : goal.returns-clause-refused
+returns-clause-refused c = refused_by_its_fault c.whole.result _ (rightly c.whole.result c.in_ok-reader.reader c.args.sheet.now c.in_ok-reader.ensures.0 c.whole.ensures)
