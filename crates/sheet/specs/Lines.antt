@@ -4,9 +4,9 @@ use Rattle.std.specs.Prelude.{◌≡◌, ℕ, ◌≤◌, ◌++◌, List, [], ◌
 use Rattle.rules.specs.declared.templates.Arguments.{Arguments}
 use Rattle.rules.specs.declared.templates.Template.{Template}
 use Rattle.rules.specs.Naming.{template_word}
+use Rattle.sheet.specs.declared.faults.Refusal.{Refusal}
 use Rattle.sheet.specs.declared.faults.ReaderRefusal.{ReaderRefusal}
 use Rattle.sheet.specs.declared.faults.ReaderRefusal.TheVariants.{NotInForm, NoSuchWord}
-use Rattle.sheet.specs.declared.faults.Refusal.TheVariants.{Reader}
 use Rattle.sheet.specs.declared.fields.Field.{Field}
 use Rattle.sheet.specs.declared.fields.Field.TheVariants.{Name, Number}
 use Rattle.sheet.specs.declared.lines.Line.{Line}
@@ -26,10 +26,10 @@ abbrev pub fields_in : Option Line → Option (List Text)
 fields_in line = option_map left_of line
 
 -- Reading a section's line: its count, within the limits; or why it fails.
-abbrev pub ReadSection : Result ℕ ReaderRefusal → Text → ℕ → ℕ → Option (List Text) → Type 0
+abbrev pub ReadSection : Result ℕ Refusal → Text → ℕ → ℕ → Option (List Text) → Type 0
 ReadSection answer word least most line = MatchResult answer
     (λ n. (least ≤ n) × (n ≤ most) × (line ≡ Some (section_line word n)))
-    (λ e. SectionFails word least most line (Reader e))
+    (λ r. SectionFails word least most line r)
 
 -- Why a line does not begin with the word of a template: its first field is no word; or no template has this word.
 abbrev pub NoTemplate : ReaderRefusal → List Text → Type 0
@@ -75,7 +75,7 @@ pub record OnlyName (line : Option Line) (s : Stretch) : Type 0 where
   pub stands : StandsFirst line s
 
 -- Reading a name's line: the name, taken last; or why it fails, and the names are as they were.
-abbrev pub ReadName : Result Unit ReaderRefusal → Option Line → Names → Names → Type 0
+abbrev pub ReadName : Result Unit Refusal → Option Line → Names → Names → Type 0
 ReadName answer line before after = MatchResult answer
     (λ _. (s : Stretch) × OnlyName line s × ((c : ℕ) → Named (names_of before) s.text.now c → ⊥) × (fields_of after ≡ fields_of before ++ Name s ∷ []))
-    (λ e. NameFails (names_of before) (fields_in line) (Reader e) × (after ≡ before))
+    (λ r. NameFails (names_of before) (fields_in line) r × (after ≡ before))

@@ -1,6 +1,6 @@
 -- The names of cues: which are the same, and which cue a name is of.
 -- Assumes nothing.
-use Rattle.std.specs.Prelude.{◌≡◌, ℕ, List, map, take, slice_get, Some, get_or, []}
+use Rattle.std.specs.Prelude.{Option, MatchOption, ◌≡◌, ℕ, ◌<◌, List, map, take, slice_get, Some, get_or, []}
 use Rattle.sheet.specs.declared.fields.Field.{Field}
 use Rattle.sheet.specs.declared.fields.Field.TheVariants.{Word, Name, Number}
 use Rattle.sheet.specs.declared.names.Names.{Names}
@@ -30,6 +30,10 @@ SameName x y = x ≡ y
 -- Cue c has this name.
 abbrev pub Named : List Text → Text → ℕ → Type 0
 Named names x c = (y : Text) × (slice_get names c ≡ Some y) × SameName x y
+
+-- Looking a name up: the first cue that has it, or none where none has it.
+abbrev pub CueOf : Option ℕ → List Text → Text → Type 0
+CueOf found names x = MatchOption found ((c : ℕ) → Named names x c → ⊥) (λ c. Named names x c × ((d : ℕ) → d < c → Named names x d → ⊥))
 
 -- No two cues have one name.
 abbrev pub Different : List Text → Type 0

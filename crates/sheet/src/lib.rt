@@ -18,5 +18,5 @@ mod words;
 pub use faults::{Fault, Layer, ReaderRefusal, Refusal};
 pub use fields::Field;
 pub use names::Names;
-pub use sheets::Sheet;
+pub use sheets::{MOST_BYTES, Sheet};
 pub use stretches::Stretch;

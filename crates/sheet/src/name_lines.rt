@@ -5,19 +5,19 @@ ghost use Rattle.sheet.specs.Fault.{IsName};
 ghost use Rattle.sheet.specs.Lines.{fields_in, OnlyName, ReadName};
 ghost use Rattle.sheet.specs.Names.{fields_of};
 
-use crate::faults::ReaderRefusal;
+use crate::faults::{ReaderRefusal, Refusal};
 use crate::fields::Field;
 use crate::lines::Line;
 use crate::names::Names;
 
 // Reads a name's line, and takes the name.
-pub(crate) fn name<'a>(line: Option<Line<'a>>, names: &mut Names<'a>) -> Result<(), ReaderRefusal>
+pub(crate) fn name<'a>(line: Option<Line<'a>>, names: &mut Names<'a>) -> Result<(), Refusal>
     requires room { length (fields_of names.old) < 32 }
     ensures { ReadName result line.entry names.old names.new }
 {
     let name = only_name(line).ok_or(ReaderRefusal::NotInForm)?;
     match names.cue(name.text()) {
-        Some(_) => Err(ReaderRefusal::NameTwice),
+        Some(_) => Err(ReaderRefusal::NameTwice.into()),
         None => {
             names.push(name);
             Ok(())

@@ -10,7 +10,7 @@ pub(crate) const MOST_NAMES: u8 = 32;
 const PLACES: usize = MOST_NAMES as usize;
 
 /// The names of a sheet's cues, in order: the name of cue 0 stands first.
-#[derive(Clone, Copy)]
+#[derive(Drop)]
 pub struct Names<'a> {
     fields: [Field<'a>; PLACES],
     count: u8,

@@ -5,7 +5,7 @@ ghost use Rattle.sheet.specs.Lines.{fields_in, ReadSection};
 ghost use Rattle.sheet.specs.Sheet.{section_line};
 ghost use Rattle.sheet.specs.Text.{most_count};
 
-use crate::faults::ReaderRefusal;
+use crate::faults::{ReaderRefusal, Refusal};
 use crate::fields::Field;
 use crate::lines::Line;
 
@@ -15,13 +15,13 @@ pub(crate) fn section(
     word: &[u8],
     least: u8,
     most: u8,
-) -> Result<u8, ReaderRefusal>
+) -> Result<u8, Refusal>
     ensures { ReadSection result word.now least most (fields_in line.entry) }
 {
     let count = counted(line, word).ok_or(ReaderRefusal::NotInForm)?;
     match u8::try_from(count) {
         Ok(count) if (least..=most).contains(&count) => Ok(count),
-        _ => Err(ReaderRefusal::CountOutside),
+        _ => Err(ReaderRefusal::CountOutside.into()),
     }
 }
 

@@ -6,6 +6,9 @@ use crate::names::Names;
 use crate::reader::Reader;
 use book::Draft;
 
+/// How many bytes a sheet has at most.
+pub const MOST_BYTES: usize = 16_384;
+
 /// A sheet (the input document of a comparison), as it was read: the names of its cues, and the drafts of the two books that are
 /// to be compared.
 #[derive(Drop)]

@@ -3,9 +3,6 @@ ghost use Rattle.std.specs.Prelude.{◌≡◌, ◌+◌, [], ◌∷◌, ◌++◌,
 ghost use Rattle.sheet.specs.Fields.{InSheet};
 ghost use Rattle.sheet.specs.Text.{parts};
 
-/// How many bytes a sheet has at most.
-pub const MOST_BYTES: usize = 16_384;
-
 /// A part of a sheet with its place: the line in which it stands, from 1, and the byte at which it begins, from 0.
 #[derive(Clone, Copy)]
 pub struct Stretch<'a> {

@@ -1,6 +1,6 @@
 //! Taking names, counting them, and looking them up.
 ghost use Rattle.std.specs.Prelude.{◌≡◌, ◌<◌, ◌≤◌, ◌↔◌, [], ◌∷◌, ◌++◌, length, slice_get, IsTrue, Some, MatchOption};
-ghost use Rattle.sheet.specs.Names.{fields_of, names_of, Named, SameName};
+ghost use Rattle.sheet.specs.Names.{fields_of, names_of, Named, CueOf, SameName};
 
 use super::{MOST_NAMES, Names, PLACES};
 use crate::fields::Field;
@@ -51,9 +51,9 @@ impl<'a> Names<'a> {
         Some(self.field(cue)?.text())
     }
 
-    /// The cue that has a name, where one has it.
+    /// The cue that has a name, where one has it. No two cues of a sheet that was read have one name.
     pub fn cue(&self, name: &[u8]) -> Option<u8>
-        ensures { MatchOption result ((c : _) → Named (names_of self.now) name.now c → ⊥) (λ c. Named (names_of self.now) name.now c) }
+        ensures { CueOf result (names_of self.now) name.now }
     {
         for cue in 0..self.count() {
             if self.is_named(cue, name) {

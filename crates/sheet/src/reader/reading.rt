@@ -14,8 +14,8 @@ use crate::name_lines::name;
 use crate::names::{MOST_NAMES, Names};
 use crate::rule_lines::rule;
 use crate::section_lines::section;
-use crate::sheets::Sheet;
-use crate::stretches::{MOST_BYTES, Stretch};
+use crate::sheets::{MOST_BYTES, Sheet};
+use crate::stretches::Stretch;
 use book::Draft;
 
 const LINE_END: u8 = b'\n';
@@ -94,11 +94,8 @@ impl<'a> Reader<'a> {
     fn section(&mut self, word: &[u8], least: u8, most: u8) -> Result<u8, Fault>
         ensures { ReadLine result (λ n fs. (least ≤ n) × (n ≤ most) × (fs ≡ section_line word.now n)) (SectionDue word.now least most) self.old self.new }
     {
-        let number = self.line;
-        section(self.line(), word, least, most).map_err(|refusal| Fault {
-            refusal: refusal.into(),
-            line: number,
-        })
+        let line = self.line;
+        section(self.line(), word, least, most).map_err(|refusal| Fault { refusal, line })
     }
 
     // Reads a name's line, and takes the name.
@@ -106,11 +103,8 @@ impl<'a> Reader<'a> {
         requires room { length (fields_of names.old) < 32 }
         ensures { ReadLine result (λ _ fs. TakesName self.old names.old names.new fs) (NameDue (names_of names.old)) self.old self.new }
     {
-        let number = self.line;
-        name(self.line(), names).map_err(|refusal| Fault {
-            refusal: refusal.into(),
-            line: number,
-        })
+        let line = self.line;
+        name(self.line(), names).map_err(|refusal| Fault { refusal, line })
     }
 
     // Reads a rule's line, and takes the rule.
@@ -119,11 +113,8 @@ impl<'a> Reader<'a> {
         ensures { ReadLine result (λ _ fs. TakesRule (names_of names.now) draft.old draft.new fs)
             (RuleDue (names_of names.now) (draft_content draft.old).rules) self.old self.new }
     {
-        let number = self.line;
-        rule(self.line(), names, draft).map_err(|refusal| Fault {
-            refusal,
-            line: number,
-        })
+        let line = self.line;
+        rule(self.line(), names, draft).map_err(|refusal| Fault { refusal, line })
     }
 
     // The next line, where a whole one is left.

@@ -1,4 +1,5 @@
-use Rattle.std.proofs.Common.{refl, arith, drop, ◌∷◌, sym, ◌∙◌, rules, []}
+use Rattle.std.proofs.Common.{◌≡◌, refl, arith, drop, ◌∷◌, sym, ◌∙◌, rules, [], Some}
+use Rattle.sheet.specs.declared.stretches.Stretch.{Stretch}
 use Rattle.sheet.specs.Lines.{left_of}
 use Rattle.sheet.specs.Reader.{Passes}
 use Rattle.sheet.proofs.Passing.{all_left, within, next_line, past_line}
@@ -17,9 +18,10 @@ returns c =
     let line = c.in_ok-line.line.text.now in
     let behind = c.in_ok-line.behind.text.now in
     let first = next_line (drop r.at r.sheet.now) line behind (rw (all_left r.sheet.now r.at) at cut.0) in
+    let place : (s : Stretch) → c.of.result.rest ≡ Some s → (s.line ≡ r.line) × (s.at ≡ r.at) = λ s e. Prim.search rules in
     let passes : Passes (left_of c.of.result ∷ []) r _ = record {
       sheet = refl;
       read = rw (cut.5, c.of.ensures) (past_line r.sheet.now r.at line behind (sym (all_left r.sheet.now r.at) ∙ cut.1));
       line = refl;
     } in
-    (rw c.of.ensures (sym first), record { passes = passes; place = λ s e. Prim.search rules })
+    (rw c.of.ensures (sym first), record { passes = passes; place = place })
