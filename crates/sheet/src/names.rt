@@ -1,9 +1,10 @@
-//! The type of cue names. Its calls are in the module below.
+//! The type of cue names. Its calls are in the modules below.
 ghost use Rattle.std.specs.Prelude.{◌≡◌, ◌≤◌, length};
 
 use crate::fields::Field;
 
-mod naming;
+mod finding;
+mod taking;
 
 pub(crate) const MOST_NAMES: u8 = 32;
 

@@ -1,31 +1,11 @@
-//! Taking names, counting them, and looking them up.
-ghost use Rattle.std.specs.Prelude.{◌≡◌, ◌<◌, ◌≤◌, ◌↔◌, [], ◌∷◌, ◌++◌, length, slice_get, IsTrue, Some, MatchOption};
+//! Counting names, and looking them up.
+ghost use Rattle.std.specs.Prelude.{◌≡◌, ◌≤◌, ◌↔◌, length, slice_get, IsTrue, Some, MatchOption};
 ghost use Rattle.sheet.specs.Names.{fields_of, names_of, Named, CueOf, SameName};
 
-use super::{MOST_NAMES, Names, PLACES};
+use super::Names;
 use crate::fields::Field;
-use crate::stretches::Stretch;
 
 impl<'a> Names<'a> {
-    // No name.
-    pub(crate) fn none() -> Names<'a>
-        ensures { fields_of result ≡ [] }
-    {
-        Names {
-            fields: [Field::Name(Stretch::nothing()); PLACES],
-            count: 0,
-        }
-    }
-
-    // Takes one name more, as the last.
-    pub(crate) fn push(&mut self, name: Field<'a>)
-        requires room { length (fields_of self.old) < 32 }
-        ensures { fields_of self.new ≡ fields_of self.old ++ name.entry ∷ [] }
-    {
-        self.fields[usize::from(self.count)] = name;
-        self.count += 1;
-    }
-
     /// How many names there are.
     pub fn count(&self) -> u8
         ensures { result ≡ length (names_of self.now) }
