@@ -10,3 +10,4 @@ pub mod Passing
 pub mod NameLine
 pub mod Sections
 pub mod Whole
+pub mod DraftsOwn

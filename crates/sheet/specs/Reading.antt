@@ -1,6 +1,8 @@
 -- What reading a sheet answers.
 -- Assumes nothing.
-use Rattle.std.specs.Prelude.{◌≡◌, ℕ, ◌+◌, ◌<◌, ◌↔◌, List, length, take, slice_get, Some, Ok, Err, Result, MatchResult}
+use Rattle.std.specs.Prelude.{◌≡◌, ℕ, ◌+◌, ◌<◌, ◌⊎◌, ◌↔◌, List, length, take, slice_get, Some, Ok, Err, Result, MatchResult}
+use Rattle.book.specs.declared.drafts.DraftRefusal.{DraftRefusal}
+use Rattle.book.specs.declared.drafts.DraftRefusal.TheVariants as draft
 use Rattle.book.specs.Draft.{draft_content}
 use Rattle.sheet.specs.declared.faults.Fault.{Fault}
 use Rattle.sheet.specs.declared.fields.Field.{Field}
@@ -43,6 +45,10 @@ AcceptedWhenWritten answer sheet = (s : Comparison) → Accepts answer s ↔ (We
 -- A sheet is refused with a fault exactly when it has that fault.
 abbrev pub RefusedByItsFault : Result Sheet Fault → Text → Type 0
 RefusedByItsFault answer sheet = (f : Fault) → Refuses answer f ↔ FaultOf sheet f
+
+-- Of a draft's refusals, a sheet's fault is one of these two at most: a count outside its limits, or one cue twice.
+unfoldable pub OnlyTheseOfADraft : Type 0
+OnlyTheseOfADraft = (sheet : Text) (f : Fault) (e : DraftRefusal) → FaultOf sheet f → f.refusal ≡ refusal.Draft e → (e ≡ draft.CountOutside) ⊎ (e ≡ draft.SameCue)
 
 -- A reader stands before all lines.
 pub record AtStart (r : Reader) : Type 0 where

@@ -1,5 +1,5 @@
 //! Sheets.
-ghost use Rattle.sheet.specs.Reading.{AcceptedWhenWritten, RefusedByItsFault};
+ghost use Rattle.sheet.specs.Reading.{AcceptedWhenWritten, RefusedByItsFault, OnlyTheseOfADraft};
 
 use crate::faults::Fault;
 use crate::names::Names;
@@ -24,9 +24,11 @@ pub struct Sheet<'a> {
 impl<'a> Sheet<'a> {
     /// Reads a sheet. It is accepted exactly when it is written as the form asks, and else refused with the first fault in reading
     /// order.
+    #[tactic(auto, using(crate::proofs::DraftsOwn::only_these))]
     pub fn read(sheet: &'a [u8]) -> Result<Sheet<'a>, Fault>
         ensures accepted { AcceptedWhenWritten result sheet.now }
         ensures refused { RefusedByItsFault result sheet.now }
+        ensures drafts { OnlyTheseOfADraft }
     {
         let mut reader = Reader::over(sheet)?;
         reader.whole()
