@@ -5,6 +5,7 @@ pub mod RuleLine
 pub mod ReadBack
 pub mod WordForms
 pub mod Judging
+pub mod Short
 pub mod OneAnswer
 pub mod Passing
 pub mod NameLine

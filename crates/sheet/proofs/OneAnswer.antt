@@ -21,6 +21,7 @@ use Rattle.sheet.specs.Sheet.{Comparison, WellFormed, written, whole, Beginning,
 use Rattle.sheet.specs.Text.{Text, NameForm, most_count, written_line}
 use Rattle.sheet.proofs.Judging.{Said, Count, Name, Rule, Goes, Ends, Judges, OverDifferent, judges_once, fails_judged, rule_goes, rule_arguments}
 use Rattle.sheet.proofs.ReadBack.{Solid, behind, line_read, line_behind, name_solid, word_solid, count_solid}
+use Rattle.sheet.proofs.Short.{short}
 use Rattle.sheet.proofs.WordForms.{word_test, word_form, template_form}
 
 -- What stands after a line, by what it says.
@@ -176,12 +177,12 @@ fault_judged sheet f h = rw h.stands ((leads h.before h.order).to h.rest (inl f)
     (ends {b = h.before} (Some f.refusal) (fails_judged (due h.before) h.rest f.refusal (over_different h.before h.order) h.fails))))
 
 written_judged : (s : Comparison) → WellFormed s → Judged Opening (written s) (inr s)
-written_judged s h = rw append-nil at ((leads (whole s) h.order).to [] (inr s) (ends {b = whole s} None (rw (none_due (length s.right) _ EndDue) (inl (tt, refl, refl)))))
+written_judged s h = rw append-nil at ((leads (whole s) h).to [] (inr s) (ends {b = whole s} None (rw (none_due (length s.right) _ EndDue) (inl (tt, refl, refl)))))
 
 -- A sheet that is written has no fault; a sheet has one fault at most; and it is written of one comparison at most.
 pub accepted_or_not : (sheet : Text) (s : Comparison) (f : Fault) → WellFormed s → written s ≡ sheet → FaultOf sheet f → ⊥
-accepted_or_not sheet s f h is (inl long) = omega (arith, h.short, ap length is, long.0)
-accepted_or_not sheet s f h is (inr (short, fault)) =
+accepted_or_not sheet s f h is (inl long) = omega (arith, short s h, ap length is, long.0)
+accepted_or_not sheet s f h is (inr (fits, fault)) =
     let e : ◌≡◌ {A = Outcome} (inl f) (inr s) = judged_once Opening sheet (inl f) (inr s) (fault_judged sheet f fault) (rw is at (written_judged s h)) in
     cc
 

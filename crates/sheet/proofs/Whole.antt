@@ -71,7 +71,7 @@ module _ (r one two : Reader) (ns : Names) (d : Draft) (start : AtStart r) (h : 
 
     -- What is said is written so, and held.
     pub all_read : three.at ≡ length three.sheet.now → (s : Comparison) × Holds (record { names = ns; left = d; right = e }) s × WellFormed s × (written s ≡ r.sheet.now)
-    all_read all = (said, holds, record { order = order; short = omega (arith, ap length is_written, r.short) }, is_written)
+    all_read all = (said, holds, order, is_written)
       where
         is_written : written said ≡ r.sheet.now
         is_written = sym (rw start.at at all_past.read) ∙ take_all three.at three.sheet.now (omega (arith, all)) ∙ all_past.sheet

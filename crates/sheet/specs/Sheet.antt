@@ -97,13 +97,14 @@ InOrder (InCues n names) = NamesInOrder n names
 InOrder (InLeft names n rules) = NamesInOrder (length names) names × RulesInOrder names n rules
 InOrder (InRight names left n rules) = NamesInOrder (length names) names × RulesInOrder names (length left) left × RulesInOrder names n rules
 
--- A whole sheet, its bytes, and when it is well formed.
+-- A whole sheet, and its bytes.
 abbrev pub whole : Comparison → Beginning
 whole s = InRight s.names s.left (length s.right) s.right
 
 abbrev pub written : Comparison → Text
 written s = begins (whole s)
 
-pub record WellFormed (s : Comparison) : Type 0 where
-  pub order : InOrder (whole s)
-  pub short : length (written s) ≤ most_bytes
+-- What a sheet says is well formed when all its lines are in order.
+-- No such sheet is too long, as is proved, so that the limit takes no well-formed sheet away.
+abbrev pub WellFormed : Comparison → Type 0
+WellFormed s = InOrder (whole s)
