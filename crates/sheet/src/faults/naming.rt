@@ -49,8 +49,8 @@ impl From<ReaderRefusal> for Refusal {
     ghost from_gives = { λ r e. e ≡ Reader r };
 
     /// What the reader turns down.
-    fn from(refusal: ReaderRefusal) -> Refusal {
-        Refusal::Reader(refusal)
+    fn from(reader: ReaderRefusal) -> Refusal {
+        Refusal::Reader(reader)
     }
 }
 
@@ -58,8 +58,8 @@ impl From<DraftRefusal> for Refusal {
     ghost from_gives = { λ r e. e ≡ Draft r };
 
     /// What a draft turns down.
-    fn from(refusal: DraftRefusal) -> Refusal {
-        Refusal::Draft(refusal)
+    fn from(draft: DraftRefusal) -> Refusal {
+        Refusal::Draft(draft)
     }
 }
 
