@@ -4,9 +4,7 @@ use machine::Numbered;
 use rules::Rule;
 use sheet::Layer::{self, Draft, Reader};
 use sheet::Sheet;
-use std::alloc::Global;
 use std::process::Abort;
-use std::test::Fail;
 
 mod accepting;
 mod changing;
@@ -63,43 +61,67 @@ fn layer_of(number: u8) -> Layer {
     if number < 8 { Reader } else { Draft }
 }
 
-// The bytes of these lines.
-fn written(alloc: Global, lines: &[&[u8]]) -> Result<Vec<u8>, Fail> {
-    let mut sheet = Vec::new(alloc);
-    for line in lines {
-        sheet.extend_from_slice(line)?;
-        sheet.push(b'\n')?;
+// A page on which texts are put one behind the other, as long as there is room.
+#[derive(Clone, Copy)]
+struct Page {
+    bytes: [u8; 4096],
+    length: usize,
+}
+
+impl Page {
+    fn new() -> Page {
+        Page {
+            bytes: [0; 4096],
+            length: 0,
+        }
     }
-    Ok(sheet)
+
+    fn put(&mut self, text: &[u8]) {
+        for byte in text {
+            if let Some(place) = self.bytes.get_mut(self.length) {
+                *place = *byte;
+                self.length = self.length.saturating_add(1);
+            }
+        }
+    }
+
+    fn text(&self) -> &[u8] {
+        self.bytes.get(..self.length).unwrap_or(&[])
+    }
+}
+
+// These lines, each with its end.
+fn written(lines: &[&[u8]]) -> Page {
+    let mut page = Page::new();
+    for line in lines {
+        page.put(line);
+        page.put(b"\n");
+    }
+    page
 }
 
 // Three texts, one behind the other.
-fn joined(alloc: Global, front: &[u8], middle: &[u8], back: &[u8]) -> Result<Vec<u8>, Fail> {
-    let mut text = Vec::new(alloc);
-    text.extend_from_slice(front)?;
-    text.extend_from_slice(middle)?;
-    text.extend_from_slice(back)?;
-    Ok(text)
+fn joined(front: &[u8], middle: &[u8], back: &[u8]) -> Page {
+    let mut page = Page::new();
+    page.put(front);
+    page.put(middle);
+    page.put(back);
+    page
 }
 
 // Puts a text in place of one line of the sheet with three rules a side, and expects that line to be refused with this number,
 // or the sheet to be accepted.
-fn try_line(
-    rt: &impl Abort,
-    alloc: Global,
-    line: u32,
-    text: &[u8],
-    expected: Option<u8>,
-) -> Result<(), Fail> {
-    let mut sheet = Vec::new(alloc);
+fn try_line(rt: &impl Abort, line: u32, text: &[u8], expected: Option<u8>) {
+    let mut page = Page::new();
     for (number, own) in (1..=12).zip(LINES) {
-        sheet.extend_from_slice(if number == line { text } else { own })?;
-        sheet.push(b'\n')?;
+        page.put(if number == line { text } else { own });
+        page.put(b"\n");
     }
-    let expected = expected.map(|number| (number, line, layer_of(number)));
-    assert_eq!(rt; told(&sheet), expected, "line {line}: {text:?}");
-    assert_eq!(rt; plain::told(&sheet), expected, "line {line}: {text:?}");
-    Ok(())
+    try_sheet(
+        rt,
+        page.text(),
+        expected.map(|number| (number, line, layer_of(number))),
+    );
 }
 
 // Expects a sheet to be refused with this fault, or accepted.

@@ -88,11 +88,11 @@ fn sheets_are_accepted_as_what_they_say(rt: HostRuntime) -> Result<(), Fail> {
     for Case(bytes, names, left, right) in &CASES {
         sheet_holds(&rt, &Sheet::read(bytes)?, names, left, right);
     }
-    let bytes = written(rt.alloc(), &LINES)?;
+    let page = written(&LINES);
     let names = [b"LOAD".as_slice(), b"HOLD", b"FLY"];
     let left = [(8, 0, 1, 0), (1, 1, 0, 2), (4, 0, 0, 0)];
     let right = [(2, 1, 0, 14), (5, 0, 0, 0), (20, 1, 0, 0)];
-    sheet_holds(&rt, &Sheet::read(&bytes)?, &names, &left, &right);
+    sheet_holds(&rt, &Sheet::read(page.text())?, &names, &left, &right);
     Ok(())
 }
 
@@ -127,16 +127,20 @@ fn every_template_is_read_on_both_sides(rt: HostRuntime) -> Result<(), Fail> {
     let lines = TEMPLATES.map(|(line, _)| line);
     let terms = TEMPLATES.map(|(_, terms)| terms);
     let names = [b"A".as_slice(), b"B", b"C"];
-    let front = written(rt.alloc(), &[b"cues 3".as_slice(), b"A", b"B", b"C"])?;
+    let front = b"cues 3\nA\nB\nC\n";
     let (some, others) = lines.split_at(11);
     let (some_terms, others_terms) = terms.split_at(11);
-    let (some, others) = (written(rt.alloc(), some)?, written(rt.alloc(), others)?);
-    let left = joined(rt.alloc(), b"left 11\n", &some, b"right 10\n")?;
-    let one = joined(rt.alloc(), &front, &left, &others)?;
-    sheet_holds(&rt, &Sheet::read(&one)?, &names, some_terms, others_terms);
-    let left = joined(rt.alloc(), b"left 10\n", &others, b"right 11\n")?;
-    let other = joined(rt.alloc(), &front, &left, &some)?;
-    sheet_holds(&rt, &Sheet::read(&other)?, &names, others_terms, some_terms);
+    let (some, others) = (written(some), written(others));
+    let mut one = joined(front, b"left 11\n", some.text());
+    one.put(b"right 10\n");
+    one.put(others.text());
+    let sheet = Sheet::read(one.text())?;
+    sheet_holds(&rt, &sheet, &names, some_terms, others_terms);
+    let mut other = joined(front, b"left 10\n", others.text());
+    other.put(b"right 11\n");
+    other.put(some.text());
+    let sheet = Sheet::read(other.text())?;
+    sheet_holds(&rt, &sheet, &names, others_terms, some_terms);
     Ok(())
 }
 

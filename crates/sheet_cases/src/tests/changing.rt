@@ -1,8 +1,6 @@
 //! Sheets that are accepted, cut short and changed in all small ways, beside the plain reading.
 use super::{EXAMPLE, LINES, joined, layer_of, plain, told, try_sheet, written};
-use std::alloc::Global;
 use std::process::Abort;
-use std::test::Fail;
 
 // Expects the plain reading to tell the same of a sheet. Answers whether it is accepted.
 fn agrees(rt: &impl Abort, sheet: &[u8]) -> bool {
@@ -24,10 +22,9 @@ fn try_cuts(rt: &impl Abort, sheet: &[u8]) {
 }
 
 #[test]
-fn a_sheet_is_refused_wherever_it_is_cut_short(rt: HostRuntime) -> Result<(), Fail> {
+fn a_sheet_is_refused_wherever_it_is_cut_short(rt: HostRuntime) {
     try_cuts(&rt, EXAMPLE);
-    try_cuts(&rt, &written(rt.alloc(), &LINES)?);
-    Ok(())
+    try_cuts(&rt, written(&LINES).text());
 }
 
 // What bytes are changed to.
@@ -35,7 +32,7 @@ const BYTES: [u8; 8] = [b'\n', b' ', b'A', b'a', b'0', b'1', b'-', 255];
 
 // Changes every byte to a few others, leaves each out, doubles each, and puts each behind the next. Answers how many of all these
 // sheets are accepted.
-fn change_bytes(rt: &impl Abort, alloc: Global, sheet: &[u8]) -> Result<u32, Fail> {
+fn change_bytes(rt: &impl Abort, sheet: &[u8]) -> u32 {
     let mut accepted: u32 = 0;
     let mut count = |sheet: &[u8]| {
         if agrees(rt, sheet) {
@@ -45,47 +42,40 @@ fn change_bytes(rt: &impl Abort, alloc: Global, sheet: &[u8]) -> Result<u32, Fai
     for (at, own) in sheet.iter().enumerate() {
         let (before, behind) = (&sheet[..at], &sheet[at + 1..]);
         for byte in BYTES {
-            count(&joined(alloc, before, &[byte], behind)?);
+            count(joined(before, &[byte], behind).text());
         }
-        count(&joined(alloc, before, b"", behind)?);
-        count(&joined(alloc, before, &[*own, *own], behind)?);
+        count(joined(before, b"", behind).text());
+        count(joined(before, &[*own, *own], behind).text());
         if let [next, rest @ ..] = behind {
-            count(&joined(alloc, before, &[*next, *own], rest)?);
+            count(joined(before, &[*next, *own], rest).text());
         }
     }
-    Ok(accepted)
+    accepted
 }
 
 // Counted by hand: a byte may stay as it is, the last name may be another, and some counts may.
 #[test]
-fn every_byte_is_changed(rt: HostRuntime) -> Result<(), Fail> {
-    let accepted = change_bytes(&rt, rt.alloc(), EXAMPLE)?;
-    let more = change_bytes(&rt, rt.alloc(), &written(rt.alloc(), &LINES)?)?;
+fn every_byte_is_changed(rt: HostRuntime) {
+    let accepted = change_bytes(&rt, EXAMPLE);
+    let more = change_bytes(&rt, written(&LINES).text());
     assert_eq!(rt; (accepted, more), (42, 58));
-    Ok(())
 }
 
 // Leaves out lines, doubles them, and puts any two in place of each other.
 #[test]
-fn every_line_is_moved(rt: HostRuntime) -> Result<(), Fail> {
+fn every_line_is_moved(rt: HostRuntime) {
     for i in 0..LINES.len() {
-        let mut without = Vec::new(rt.alloc());
-        let mut doubled = Vec::new(rt.alloc());
-        for (k, line) in LINES.iter().enumerate() {
-            if k == i {
-                doubled.push(*line)?;
-            } else {
-                without.push(*line)?;
-            }
-            doubled.push(*line)?;
-        }
-        assert!(rt; !agrees(&rt, &written(rt.alloc(), &without)?));
-        assert!(rt; !agrees(&rt, &written(rt.alloc(), &doubled)?));
+        let (before, behind) = (written(&LINES[..i]), written(&LINES[i + 1..]));
+        let own = written(&LINES[i..=i]);
+        let without = joined(before.text(), b"", behind.text());
+        let mut doubled = joined(before.text(), own.text(), own.text());
+        doubled.put(behind.text());
+        assert!(rt; !agrees(&rt, without.text()));
+        assert!(rt; !agrees(&rt, doubled.text()));
         for j in 0..LINES.len() {
             let mut lines = LINES;
             lines.swap(i, j);
-            let _ = agrees(&rt, &written(rt.alloc(), &lines)?);
+            let _ = agrees(&rt, written(&lines).text());
         }
     }
-    Ok(())
 }

@@ -1,8 +1,7 @@
 //! Sheets at the edges of what is accepted: the most and the fewest of everything, and every byte in every kind of field.
 use super::plain::{self, WORDS};
-use super::{EXAMPLE, Terms, joined, layer_of, terms_of, told, try_line, try_sheet};
+use super::{EXAMPLE, Page, Terms, joined, layer_of, terms_of, told, try_line, try_sheet};
 use sheet::Sheet;
-use std::alloc::Global;
 use std::process::Abort;
 use std::test::Fail;
 
@@ -49,30 +48,29 @@ fn long_name(number: u8) -> [u8; 16] {
 type Count = (&'static [u8], u8);
 
 // Puts the section of a book under a count, with so many of the longest rules, each about two of the cues in turn.
-fn put_rules(sheet: &mut Vec<u8>, word: &[u8], count: Count) -> Result<(), Fail> {
-    sheet.extend_from_slice(word)?;
-    sheet.extend_from_slice(count.0)?;
-    sheet.push(b'\n')?;
+fn put_rules(page: &mut Page, word: &[u8], count: Count) {
+    page.put(word);
+    page.put(count.0);
+    page.put(b"\n");
     for number in 0..count.1 {
-        sheet.extend_from_slice(b"not-chain-succession ")?;
-        sheet.extend_from_slice(&long_name(number))?;
-        sheet.push(b' ')?;
-        sheet.extend_from_slice(&long_name(31_u8.saturating_sub(number)))?;
-        sheet.push(b'\n')?;
+        page.put(b"not-chain-succession ");
+        page.put(&long_name(number));
+        page.put(b" ");
+        page.put(&long_name(31_u8.saturating_sub(number)));
+        page.put(b"\n");
     }
-    Ok(())
 }
 
 // A sheet with so many long names and so many rules a side.
-fn long_sheet(alloc: Global, names: Count, left: Count, right: Count) -> Result<Vec<u8>, Fail> {
-    let mut sheet = joined(alloc, b"cues ", names.0, b"\n")?;
+fn long_sheet(names: Count, left: Count, right: Count) -> Page {
+    let mut page = joined(b"cues ", names.0, b"\n");
     for number in 0..names.1 {
-        sheet.extend_from_slice(&long_name(number))?;
-        sheet.push(b'\n')?;
+        page.put(&long_name(number));
+        page.put(b"\n");
     }
-    put_rules(&mut sheet, b"left ", left)?;
-    put_rules(&mut sheet, b"right ", right)?;
-    Ok(sheet)
+    put_rules(&mut page, b"left ", left);
+    put_rules(&mut page, b"right ", right);
+    page
 }
 
 // How many names and rules a side a sheet has and says it has, and the number of the refusal with its line.
@@ -94,24 +92,23 @@ const COUNTS: [(Count, Count, Count, Option<(u8, u32)>); 14] = [
 ];
 
 #[test]
-fn the_most_and_the_fewest_lines_are_read(rt: HostRuntime) -> Result<(), Fail> {
+fn the_most_and_the_fewest_lines_are_read(rt: HostRuntime) {
     for (names, left, right, fault) in COUNTS {
-        let sheet = long_sheet(rt.alloc(), names, left, right)?;
+        let page = long_sheet(names, left, right);
         try_sheet(
             &rt,
-            &sheet,
+            page.text(),
             fault.map(|(number, line)| (number, line, layer_of(number))),
         );
     }
-    Ok(())
 }
 
 // Its names and rules are read as they were put, and each name begins seventeen bytes behind the one before.
 #[test]
 fn the_longest_sheet_is_accepted(rt: HostRuntime) -> Result<(), Fail> {
-    let bytes = long_sheet(rt.alloc(), (b"32", 32), (b"16", 16), (b"16", 16))?;
-    assert_eq!(rt; bytes.len(), 2_329);
-    let sheet = Sheet::read(&bytes)?;
+    let page = long_sheet((b"32", 32), (b"16", 16), (b"16", 16));
+    assert_eq!(rt; page.text().len(), 2_329);
+    let sheet = Sheet::read(page.text())?;
     assert_eq!(rt; sheet.names.count(), 32);
     for cue in 0..32 {
         assert_eq!(rt; sheet.names.name(cue), Some(long_name(cue).as_slice()));
@@ -154,11 +151,10 @@ const ACCEPTED: [(u32, &[u8]); 15] = [
 ];
 
 #[test]
-fn lines_in_form_are_accepted(rt: HostRuntime) -> Result<(), Fail> {
+fn lines_in_form_are_accepted(rt: HostRuntime) {
     for (line, text) in ACCEPTED {
-        try_line(&rt, rt.alloc(), line, text, None)?;
+        try_line(&rt, line, text, None);
     }
-    Ok(())
 }
 
 // Bytes that stand in a text, and the number of the refusal that they lead to there.
@@ -226,11 +222,7 @@ const PLACES: [(u32, &[u8], &[u8], &[Bytes]); 29] = [
 ];
 
 // Tries bytes of seven bits, but no line end, and some others.
-fn try_bytes(
-    rt: &impl Abort,
-    alloc: Global,
-    place: (u32, &[u8], &[u8], &[Bytes]),
-) -> Result<(), Fail> {
+fn try_bytes(rt: &impl Abort, place: (u32, &[u8], &[u8], &[Bytes])) {
     let (line, front, back, some) = place;
     let bytes = (0..b'\n').chain(11..=129).chain([176, 193, 225, 255]);
     for byte in bytes {
@@ -238,64 +230,47 @@ fn try_bytes(
             Some((_, number)) => *number,
             None => Some(2),
         };
-        let text = joined(alloc, front, &[byte], back)?;
-        try_line(rt, alloc, line, &text, expected)?;
+        try_line(rt, line, joined(front, &[byte], back).text(), expected);
     }
-    Ok(())
 }
 
 #[test]
-fn every_byte_is_tried_in_every_kind_of_field(rt: HostRuntime) -> Result<(), Fail> {
+fn every_byte_is_tried_in_every_kind_of_field(rt: HostRuntime) {
     for place in PLACES {
-        try_bytes(&rt, rt.alloc(), place)?;
+        try_bytes(&rt, place);
     }
-    Ok(())
 }
 
 // Expects a text in place of a rule to be refused with 5, and in place of a section's line with 2.
-fn try_word(rt: &impl Abort, alloc: Global, front: &[u8], back: &[u8]) -> Result<(), Fail> {
-    try_line(
-        rt,
-        alloc,
-        7,
-        &joined(alloc, front, back, b" LOAD HOLD")?,
-        Some(5),
-    )?;
-    try_line(rt, alloc, 12, &joined(alloc, front, back, b"")?, Some(5))?;
+fn try_word(rt: &impl Abort, front: &[u8], back: &[u8]) {
+    try_line(rt, 7, joined(front, back, b" LOAD HOLD").text(), Some(5));
+    try_line(rt, 12, joined(front, back, b"").text(), Some(5));
     for line in [1, 5, 9] {
-        try_line(
-            rt,
-            alloc,
-            line,
-            &joined(alloc, front, back, b" 3")?,
-            Some(2),
-        )?;
+        try_line(rt, line, joined(front, back, b" 3").text(), Some(2));
     }
-    Ok(())
 }
 
 // Tries what is nearly a word: its first or its last letter is left out, or something is added.
-fn try_nearly(rt: &impl Abort, alloc: Global, word: &[u8]) -> Result<(), Fail> {
+fn try_nearly(rt: &impl Abort, word: &[u8]) {
     if let [first, behind @ ..] = word {
-        try_word(rt, alloc, behind, b"")?;
-        try_word(rt, alloc, &[*first], word)?;
+        try_word(rt, behind, b"");
+        try_word(rt, &[*first], word);
     }
     if let [before @ .., last] = word {
-        try_word(rt, alloc, before, b"")?;
-        try_word(rt, alloc, word, &[*last])?;
+        try_word(rt, before, b"");
+        try_word(rt, word, &[*last]);
     }
-    try_word(rt, alloc, word, b"-")?;
-    try_word(rt, alloc, b"-", word)?;
-    try_word(rt, alloc, word, word)
+    try_word(rt, word, b"-");
+    try_word(rt, b"-", word);
+    try_word(rt, word, word);
 }
 
 #[test]
-fn nearly_words_are_no_words(rt: HostRuntime) -> Result<(), Fail> {
+fn nearly_words_are_no_words(rt: HostRuntime) {
     for (word, _) in WORDS {
-        try_nearly(&rt, rt.alloc(), word)?;
+        try_nearly(&rt, word);
     }
     for word in [b"cues".as_slice(), b"left", b"right"] {
-        try_nearly(&rt, rt.alloc(), word)?;
+        try_nearly(&rt, word);
     }
-    Ok(())
 }

@@ -1,6 +1,5 @@
 //! Which of two faults is told: in one line the one that is looked for first, and else the one in the earlier line.
 use super::{RULES, layer_of, try_line, try_sheet};
-use std::test::Fail;
 
 // What stands in place of a rule and has two faults or more, and the number of the one that is told.
 const IN_A_RULE: [(&[u8], u8); 24] = [
@@ -51,16 +50,15 @@ const IN_A_LINE: [(u32, &[u8], u8); 11] = [
 ];
 
 #[test]
-fn one_fault_of_a_line_is_told(rt: HostRuntime) -> Result<(), Fail> {
+fn one_fault_of_a_line_is_told(rt: HostRuntime) {
     for line in RULES {
         for (text, number) in IN_A_RULE {
-            try_line(&rt, rt.alloc(), line, text, Some(number))?;
+            try_line(&rt, line, text, Some(number));
         }
     }
     for (line, text, number) in IN_A_LINE {
-        try_line(&rt, rt.alloc(), line, text, Some(number))?;
+        try_line(&rt, line, text, Some(number));
     }
-    Ok(())
 }
 
 // Sheets with faults in two lines or more, and the number and the line of the one that is told.

@@ -1,6 +1,5 @@
 //! Refused sheets: every refusal at every place that can raise it.
 use super::{RULES, joined, layer_of, try_line, try_sheet};
-use std::test::Fail;
 
 // A line of the sheet with three rules a side, what stands there instead, and the number of the refusal.
 const SECTIONS: [(u32, &[u8], u8); 21] = [
@@ -37,17 +36,15 @@ const TAILS: [&[u8]; 20] = [
 ];
 
 #[test]
-fn section_lines_are_refused(rt: HostRuntime) -> Result<(), Fail> {
+fn section_lines_are_refused(rt: HostRuntime) {
     for (line, text, number) in SECTIONS {
-        try_line(&rt, rt.alloc(), line, text, Some(number))?;
+        try_line(&rt, line, text, Some(number));
     }
     for (line, word) in WORDS {
         for tail in TAILS {
-            let text = joined(rt.alloc(), word, tail, b"")?;
-            try_line(&rt, rt.alloc(), line, &text, Some(2))?;
+            try_line(&rt, line, joined(word, tail, b"").text(), Some(2));
         }
     }
-    Ok(())
 }
 
 // What is no name.
@@ -75,16 +72,15 @@ const NO_NAMES: [&[u8]; 20] = [
 ];
 
 #[test]
-fn name_lines_are_refused(rt: HostRuntime) -> Result<(), Fail> {
+fn name_lines_are_refused(rt: HostRuntime) {
     for line in [2, 3, 4] {
         for text in NO_NAMES {
-            try_line(&rt, rt.alloc(), line, text, Some(2))?;
+            try_line(&rt, line, text, Some(2));
         }
     }
     for (line, text) in [(3, b"LOAD".as_slice()), (4, b"LOAD"), (4, b"HOLD")] {
-        try_line(&rt, rt.alloc(), line, text, Some(4))?;
+        try_line(&rt, line, text, Some(4));
     }
-    Ok(())
 }
 
 // What stands in place of a rule, and the number of the refusal.
@@ -147,13 +143,12 @@ const NO_RULES: [(&[u8], u8); 55] = [
 ];
 
 #[test]
-fn rule_lines_are_refused(rt: HostRuntime) -> Result<(), Fail> {
+fn rule_lines_are_refused(rt: HostRuntime) {
     for line in RULES {
         for (text, number) in NO_RULES {
-            try_line(&rt, rt.alloc(), line, text, Some(number))?;
+            try_line(&rt, line, text, Some(number));
         }
     }
-    Ok(())
 }
 
 // Sheets with the number of the refusal and its line: where they end too soon, go on too long, or have other counts than lines.
