@@ -1,8 +1,7 @@
 -- Which of a draft's refusals a sheet can have for its fault.
 -- Assumes nothing.
-use Rattle.std.proofs.Common.{◌≡◌, ℕ, ◌<◌, ◌⊎◌, inl, inr, Bool, true, false, IsTrue, List, length, Option, refl, arith}
+use Rattle.std.proofs.Common.{◌≡◌, ◌<◌, ◌⊎◌, inl, inr, Bool, true, false, IsTrue, List, length, Option, refl, arith}
 use Rattle.std.proofs.lemmas.Bool.Decides.{nat_tests}
-use Rattle.std.proofs.lemmas.Option.{slice_get_within}
 use Rattle.std.specs.Prelude.{if◌then◌else◌, nat_lt}
 use Rattle.rules.specs.Rule.{Terms}
 use Rattle.book.specs.declared.drafts.DraftRefusal.{DraftRefusal}
@@ -10,15 +9,10 @@ use Rattle.book.specs.declared.drafts.DraftRefusal.TheVariants.{NoSuchTemplate, 
 use Rattle.book.specs.Held.{most_rules}
 use Rattle.sheet.specs.declared.faults.Refusal.TheVariants.{Draft}
 use Rattle.sheet.specs.Fault.{Due, SectionDue, NameDue, RuleDue, EndDue, due, Fails, RuleFails, line_of}
-use Rattle.sheet.specs.Names.{Named}
 use Rattle.sheet.specs.Reading.{OnlyTheseOfADraft}
 use Rattle.sheet.specs.Sheet.{Beginning, Opening, InCues, InLeft, InRight, InOrder}
 use Rattle.sheet.specs.Text.{Text}
-use Rattle.sheet.proofs.Naming.{one_number}
-
--- A cue that has a name is below the cue count.
-below : (names : List Text) (x : Text) (c : ℕ) → Named names x c → c < length names
-below names x c (y, at, same) = slice_get_within names c y at
+use Rattle.sheet.proofs.Places.{one_number, cue_below}
 
 -- What is due where more may be to come.
 chosen : (more : Bool) (d e x : Due) → (if more then d else e) ≡ x → (IsTrue more × (d ≡ x)) ⊎ (e ≡ x)
@@ -40,7 +34,7 @@ of_rule names rs line CountOutside roomy fails = inl refl
 of_rule names rs line SameCue roomy fails = inr refl
 of_rule names rs line NoSuchTemplate roomy (t, fs, reads, x, y, n, are, (a, b, named, none)) = absurd (none t refl)
 of_rule names rs line NoSuchCue roomy (t, fs, reads, x, y, n, are, (a, b, named, (u, same, high))) =
-    absurd (high (below names x a named.0, λ two. below names y b (named.1 (rw (one_number u t same) at two))))
+    absurd (high (cue_below names x a named.0, λ two. cue_below names y b (named.1 (rw (one_number u t same) at two))))
 of_rule names rs line Full roomy (t, fs, reads, x, y, n, are, (a, b, named, (u, same, (low, right, full)))) = absurd (full roomy)
 of_rule names rs line NoSuchRule roomy (t, fs, reads, x, y, n, are, (a, b, named, none)) = absurd none
 

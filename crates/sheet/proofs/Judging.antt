@@ -1,8 +1,8 @@
 -- What is due has one answer: the line goes on with one thing said, or the sheet ends there, for one reason or as a whole.
 -- Assumes nothing.
-use Rattle.std.proofs.Common.{◌≡◌, ℕ, ◌<◌, ◌≤◌, ◌⊎◌, inl, inr, List, [], ◌∷◌, length, Option, Some, None, refl, sym, ap, subst, ◌∙◌, arith, rules}
+use Rattle.std.proofs.Common.{◌≡◌, ℕ, ◌<◌, ◌≤◌, ◌⊎◌, inl, inr, List, [], ◌∷◌, length, Option, Some, None, refl, sym, ap, subst, ◌∙◌, arith}
 use Rattle.std.proofs.lemmas.Fmt.{decimal_injective}
-use Rattle.std.proofs.lemmas.Option.{slice_get_within, slice_get-get_or}
+use Rattle.std.proofs.lemmas.Option.{slice_get-get_or}
 use Rattle.std.specs.List.{All}
 use Rattle.std.specs.Prelude.{⊤, ◌↔◌}
 use Rattle.rules.specs.declared.templates.Arguments.{Arguments}
@@ -16,13 +16,14 @@ use Rattle.book.specs.declared.drafts.DraftRefusal.{DraftRefusal}
 use Rattle.book.specs.declared.drafts.DraftRefusal.TheVariants as draft
 use Rattle.book.specs.Draft.{NotAdded}
 use Rattle.book.specs.Held.{most_rules}
-use Rattle.sheet.specs.declared.faults.ReaderRefusal.TheVariants.{NotInForm, CountOutside, NameTwice, NoSuchWord, NoSuchName, LeftOver}
+use Rattle.sheet.specs.declared.faults.ReaderRefusal.TheVariants.{NotInForm, SectionCountOutside, NameTwice, NoSuchWord, NoSuchName, LeftOver}
 use Rattle.sheet.specs.declared.faults.Refusal.{Refusal}
 use Rattle.sheet.specs.declared.faults.Refusal.TheVariants.{Reader, Draft}
 use Rattle.sheet.specs.Fault.{Due, SectionDue, NameDue, RuleDue, EndDue, IsArguments, AreNames, Fails, line_of}
 use Rattle.sheet.specs.Names.{Named, Different, name_of}
 use Rattle.sheet.specs.Sheet.{RuleRight, section_line, name_line, rule_line, argument_fields}
 use Rattle.sheet.specs.Text.{Text, NameForm, WordForm, most_count}
+use Rattle.sheet.proofs.Places.{one_number, cue_below}
 use Rattle.sheet.proofs.WordForms.{template_form}
 
 -- What a line says; and the answers to what is due: this is said, or the sheet ends, for a reason or as a whole.
@@ -40,8 +41,8 @@ pub data Answer : Type 0 where
 abbrev pub Check : {A : Type 0} → (A → Type 0) → Refusal → (A → Answer → Type 0) → Answer → Type 0
 Check {A} F r D x = ((a : A) × F a × D a x) ⊎ ((x ≡ Ends (Some r)) × ((a : A) → F a → ⊥))
 
-abbrev pub Passes : Type 0 → Refusal → (Answer → Type 0) → Answer → Type 0
-Passes F r D x = Check (λ (_ : ⊤). F) r (λ _. D) x
+abbrev pub Must : Type 0 → Refusal → (Answer → Type 0) → Answer → Type 0
+Must F r D x = Check (λ (_ : ⊤). F) r (λ _. D) x
 
 -- The fields behind a template's word tell the rule r over these names.
 abbrev pub Tells : List Text → Template → List Text → Terms → Type 0
@@ -49,20 +50,20 @@ Tells names t fs r = (x y : Text) × (n a b : ℕ) × IsArguments (arguments_of 
 
 -- What is answered to that rule, by a draft with these.
 abbrev pub Adds : List Terms → Template → Terms → Answer → Type 0
-Adds rs t r = Passes (CountRight (arguments_of t) r.n) (Draft draft.CountOutside)
-    (Passes (CuesRight (arguments_of t) r.a r.b) (Draft draft.SameCue) (Passes (length rs < most_rules) (Draft draft.Full) (λ x. x ≡ Goes (Rule r))))
+Adds rs t r = Must (CountRight (arguments_of t) r.n) (Draft draft.CountOutside)
+    (Must (CuesRight (arguments_of t) r.a r.b) (Draft draft.SameCue) (Must (length rs < most_rules) (Draft draft.Full) (λ x. x ≡ Goes (Rule r))))
 
 -- What is answered to the rest of a sheet, check by check.
 abbrev pub Judges : Due → Text → Answer → Type 0
 Judges (SectionDue word least most) rest = Check (λ n. (n ≤ most_count) × (line_of rest ≡ Some (section_line word n))) (Reader NotInForm)
-    (λ n. Passes ((least ≤ n) × (n ≤ most)) (Reader CountOutside) (λ x. x ≡ Goes (Count n)))
+    (λ n. Must ((least ≤ n) × (n ≤ most)) (Reader SectionCountOutside) (λ x. x ≡ Goes (Count n)))
 Judges (NameDue names) rest = Check (λ x. NameForm x × (line_of rest ≡ Some (name_line x))) (Reader NotInForm)
-    (λ x. Passes ((c : ℕ) → Named names x c → ⊥) (Reader NameTwice) (λ y. y ≡ Goes (Name x)))
+    (λ x. Must ((c : ℕ) → Named names x c → ⊥) (Reader NameTwice) (λ y. y ≡ Goes (Name x)))
 Judges (RuleDue names rs) rest = Check (λ (p : Text × List Text). WordForm p.0 × (line_of rest ≡ Some (p.0 ∷ p.1))) (Reader NotInForm)
     (λ p. Check (λ t. p.0 ≡ template_word t) (Reader NoSuchWord)
-    (λ t. Passes ((x y : Text) × (n : ℕ) × IsArguments (arguments_of t) p.1 x y n) (Reader NotInForm)
+    (λ t. Must ((x y : Text) × (n : ℕ) × IsArguments (arguments_of t) p.1 x y n) (Reader NotInForm)
     (Check (λ r. Different names × Tells names t p.1 r) (Reader NoSuchName) (Adds rs t))))
-Judges EndDue rest = Passes (rest ≡ []) (Reader LeftOver) (λ x. x ≡ Ends None)
+Judges EndDue rest = Must (rest ≡ []) (Reader LeftOver) (λ x. x ≡ Ends None)
 
 -- What has one answer: a check that finds one thing at most, which has one; and an answer by itself.
 abbrev Once : (Answer → Type 0) → Type 0
@@ -74,7 +75,7 @@ check_once F r D one once x y (inl (a, f, d)) (inr (e, none)) = absurd (none a f
 check_once F r D one once x y (inr (e, none)) (inl (a, f, d)) = absurd (none a f)
 check_once F r D one once x y (inr (e, none)) (inr (d, never)) = e ∙ sym d
 
-passes_once : (F : Type 0) (r : Refusal) (D : Answer → Type 0) → Once D → Once (Passes F r D)
+passes_once : (F : Type 0) (r : Refusal) (D : Answer → Type 0) → Once D → Once (Must F r D)
 passes_once F r D once = check_once (λ (_ : ⊤). F) r (λ _. D) (λ a b f g. refl) (λ _. once)
 
 itself_once : (x : Answer) → Once (λ y. y ≡ x)
@@ -119,26 +120,19 @@ judges_once (RuleDue names rs) rest = check_once _ _ _ (λ p q h k. first_once p
     (λ t. passes_once _ _ _ (check_once _ _ _ (tells_once names t p.1) (λ r. passes_once _ _ _ (passes_once _ _ _ (passes_once _ _ _ (itself_once (Goes (Rule r)))))))))
 judges_once EndDue rest = passes_once _ _ _ (itself_once (Ends None))
 
--- No two templates have one number.
-numbers_apart : (t u : Template) → template_number t ≡ template_number u → t ≡ u
-numbers_apart t u e = search rules
-
 -- Why a draft refuses a rule is what it answers.
 turned_down : (names : List Text) (rs : List Terms) (t : Template) (x y : Text) (a b n : ℕ) → AreNames names (arguments_of t) x y a b → (e : DraftRefusal)
     → NotAdded e (record { cues = length names; rules = rs }) (template_number t) a b n → Adds rs t (kept t a b n) (Ends (Some (Draft e)))
 turned_down names rs t x y a b n are draft.NoSuchTemplate h = absurd (h t refl)
-turned_down names rs t x y a b n are draft.NoSuchCue (u, is, fails) = absurd ((rw (numbers_apart u t is) at fails) (below x a are.0, λ two. below y b (are.1 two)))
-  where
-    below : (z : Text) (c : ℕ) → Named names z c → c < length names
-    below z c h = slice_get_within names c h.0 h.1
+turned_down names rs t x y a b n are draft.NoSuchCue (u, is, fails) = absurd ((rw (one_number u t is) at fails) (cue_below names x a are.0, λ two. cue_below names y b (are.1 two)))
 turned_down names rs t x y a b n are draft.CountOutside (u, is, h) =
-    let k = rw (numbers_apart u t is) at h in
+    let k = rw (one_number u t is) at h in
     inr (refl, λ _ count. k.1 ((kept_right (arguments_of t) a b n).0.0 count))
 turned_down names rs t x y a b n are draft.SameCue (u, is, h) =
-    let k = rw (numbers_apart u t is) at h in
+    let k = rw (one_number u t is) at h in
     inl (tt, (kept_right (arguments_of t) a b n).0.1 k.1, inr (refl, λ _ cues. k.2 ((kept_right (arguments_of t) a b n).1.0 cues)))
 turned_down names rs t x y a b n are draft.Full (u, is, h) =
-    let k = rw (numbers_apart u t is) at h in
+    let k = rw (one_number u t is) at h in
     inl (tt, (kept_right (arguments_of t) a b n).0.1 k.1.count, inl (tt, (kept_right (arguments_of t) a b n).1.1 k.1.cues, inr (refl, λ _ room. k.2 room)))
 turned_down names rs t x y a b n are draft.NoSuchRule h = absurd h
 
@@ -155,7 +149,7 @@ OverDifferent d = ⊤
 -- Why what is due fails is its answer.
 pub fails_judged : (d : Due) (rest : Text) (r : Refusal) → OverDifferent d → Fails d rest r → Judges d rest (Ends (Some r))
 fails_judged (SectionDue word least most) rest (Reader NotInForm) _ h = inr (refl, λ n f. h (n, f.0, f.1, tt))
-fails_judged (SectionDue word least most) rest (Reader CountOutside) _ h = inl (h.0, (h.1, h.2), inr (refl, λ _ f. h.3 f))
+fails_judged (SectionDue word least most) rest (Reader SectionCountOutside) _ h = inl (h.0, (h.1, h.2), inr (refl, λ _ f. h.3 f))
 fails_judged (SectionDue word least most) rest r _ h = absurd h
 fails_judged (NameDue names) rest (Reader NotInForm) _ h = inr (refl, λ x f. h (x, f.0, f.1, tt))
 fails_judged (NameDue names) rest (Reader NameTwice) _ h = inl (h.0, (h.1, h.2), inr (refl, λ _ new. new h.3.0 h.3.1))

@@ -1,6 +1,6 @@
 pub mod Counts
 pub mod Cut
-pub mod Naming
+pub mod Places
 pub mod RuleLine
 pub mod ReadBack
 pub mod WordForms

@@ -17,7 +17,7 @@ next_line x y z e = ap (λ ps. option_map fields (leading ps)) e ∙ ap (option_
 pub no_line : (x : Text) → parts line_end x ≡ x ∷ [] → line_of x ≡ None
 no_line x e = ap (λ ps. option_map fields (leading ps)) e
 
--- What is left of a sheet, and a line that stands first in it does not go beyond the sheet.
+-- What is left of a sheet is all of it from there on, and a line that stands first in it does not go beyond the sheet.
 pub all_left : (sheet : Text) (at : ℕ) → take (length sheet - at) (drop at sheet) ≡ drop at sheet
 all_left sheet at = take_all _ _ (omega (arith, length-drop at sheet))
 

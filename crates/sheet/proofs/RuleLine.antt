@@ -24,7 +24,7 @@ use Rattle.sheet.specs.Names.{Named, field_text, name_of}
 use Rattle.sheet.specs.RuleLines.{AsksFor}
 use Rattle.sheet.specs.Sheet.{RuleRight, argument_fields, rule_line}
 use Rattle.sheet.specs.Text.{Text}
-use Rattle.sheet.proofs.Naming.{one_number}
+use Rattle.sheet.proofs.Places.{one_number}
 
 -- The name that follows is that of a cue.
 pub second_named : (names : List Text) (second : Option Field) (s : Stretch) (b : ℕ) → second ≡ Some (Name s) → SecondNamed names second b → Named names s.text.now b
@@ -36,9 +36,9 @@ names_that_follow names CueAndCount second y n b is named e = cc
 names_that_follow names OneCue second y n b is named e = cc
 names_that_follow names TwoCues second y n b is named e = rw is.2 at (second_named names second is.0 b is.1 named)
 
-follows_name : (names : List Text) (taken : Arguments) (second : Option Field) (y : Text) (n b : ℕ) → SecondIs taken second y n → (taken ≡ TwoCues → Named names y b) → SecondNamed names second b
-follows_name names CueAndCount second y n b is named = rw is.1 tt
-follows_name names OneCue second y n b is named = rw is tt
+follows_name : (names : List Text) (taken : Arguments) (second : Option Field) (y : Text) (n b : ℕ) → SecondIs taken second y n → (taken ≡ TwoCues → Named names y b) → SecondNamed names second (kept_b taken b)
+follows_name names CueAndCount second y n b is named = rw is.1 refl
+follows_name names OneCue second y n b is named = rw is refl
 follows_name names TwoCues second y n b is named = rw (is.1, is.2) (named refl)
 
 counts_that_follow : (taken : Arguments) (second : Option Field) (y : Text) (n k : ℕ) → SecondIs taken second y n → SecondCounted second k → taken ≡ CueAndCount → k ≡ min n 255
@@ -46,11 +46,22 @@ counts_that_follow CueAndCount second y n k is counted e = rw is.1 at counted
 counts_that_follow OneCue second y n k is counted e = cc
 counts_that_follow TwoCues second y n k is counted e = cc
 
+-- What is lacking is 0.
+lacking_b : (names : List Text) (taken : Arguments) (second : Option Field) (y : Text) (n b : ℕ) → SecondIs taken second y n → SecondNamed names second b → b ≡ kept_b taken b
+lacking_b names CueAndCount second y n b is named = rw is.1 at named
+lacking_b names OneCue second y n b is named = rw is at named
+lacking_b names TwoCues second y n b is named = refl
+
+lacking_k : (taken : Arguments) (second : Option Field) (y : Text) (n k : ℕ) → SecondIs taken second y n → SecondCounted second k → k ≡ kept_n taken k
+lacking_k CueAndCount second y n k is counted = refl
+lacking_k OneCue second y n k is counted = rw is at counted
+lacking_k TwoCues second y n k is counted = rw is.1 at counted
+
 -- A name that no cue has.
 pub unknown_name : (names : List Text) (rules : List Terms) (line : Option (List Text)) (t : Template) (fs : List Text) (first : Field) (second : Option Field)
     → line ≡ Some (template_word t ∷ fs) → ReadArguments (Some (first, second)) (arguments_of t) fs → ReadCues None names first second → RuleFails names rules line (Reader NoSuchName)
 unknown_name names rs line t fs first second reads (y, n, are, is) none =
-    (t, fs, reads, field_text first, y, n, are, λ a b named. none a b named.0 (follows_name names (arguments_of t) second y n b is named.1))
+    (t, fs, reads, field_text first, y, n, are, λ a b named. none a (kept_b (arguments_of t) b) named.0 (follows_name names (arguments_of t) second y n b is named.1))
 
 -- What the line asks to add.
 pub is_asked : (names : List Text) (line : Option (List Text)) (t : Template) (fs : List Text) (first : Field) (second : Option Field) (a b k : ℕ)
@@ -64,6 +75,8 @@ is_asked names line t fs first second a b k reads (y, n, are, is) (first_is, sec
   arguments = are;
   named = (first_is, names_that_follow names (arguments_of t) second y n b is second_is);
   counted = counts_that_follow (arguments_of t) second y n k is count_is;
+  no_b = lacking_b names (arguments_of t) second y n b is second_is;
+  no_k = lacking_k (arguments_of t) second y n k is count_is;
 }
 
 -- A count and what it is told as are right together.

@@ -16,7 +16,7 @@ use Rattle.sheet.specs.declared.names.Names.{Names}
 use Rattle.sheet.specs.declared.reader.Reader.{Reader}
 use Rattle.sheet.specs.Fault.{Due, NameDue, RuleDue}
 use Rattle.sheet.specs.Names.{Named, Different, field_text, fields_of, names_of}
-use Rattle.sheet.specs.Reader.{read_by, left_to, Passes, FaultAfter, TakesName, TakesRule, Placed, NamesSoFar, NamesFault, RulesSoFar, BookFault}
+use Rattle.sheet.specs.Reader.{read_by, rest_for, Passes, FaultAfter, TakesName, TakesRule, Placed, NamesSoFar, NamesFault, RulesSoFar, BookFault}
 use Rattle.sheet.specs.Sheet.{RuleRight, cues_word, cues_lines, section_line, name_line, rule_line}
 use Rattle.sheet.specs.Text.{Text, NameForm, written_line}
 
@@ -29,15 +29,15 @@ on {ls} {ms} {a} h k = record {
 }
 
 -- What was left to a reader is the lines that it is past and what is left to it now.
-pub left : {ls : List (List Text)} {a b : Reader} → Passes ls a b → left_to a ≡ flat_map written_line ls ++ left_to b
-left {ls} {a} {b} h = append_cancel_left (read_by a) _ _
-    (take-append-drop a.at a.sheet.now ∙ sym h.sheet ∙ sym (take-append-drop b.at b.sheet.now) ∙ ap (λ x. x ++ left_to b) h.read ∙ append_assoc (read_by a) _ _)
+pub rest_is : {ls : List (List Text)} {a b : Reader} → Passes ls a b → rest_for a ≡ flat_map written_line ls ++ rest_for b
+rest_is {ls} {a} {b} h = append_cancel_left (read_by a) _ _
+    (take-append-drop a.at a.sheet.now ∙ sym h.sheet ∙ sym (take-append-drop b.at b.sheet.now) ∙ ap (λ x. x ++ rest_for b) h.read ∙ append_assoc (read_by a) _ _)
 
 -- A fault that a reader meets past lines is one after those lines.
 pub later : {ls ms : List (List Text)} {d : Due} {a b : Reader} {f : Fault} → Passes ls a b → FaultAfter ms d b f → FaultAfter (ls ++ ms) d a f
 later {ls} {ms} h k = record {
   rest = k.rest;
-  stands = left h ∙ ap (λ x. flat_map written_line ls ++ x) k.stands ∙ sym (append_assoc _ _ k.rest) ∙ ap (λ x. x ++ k.rest) (sym (flat_map-append written_line ls ms));
+  stands = rest_is h ∙ ap (λ x. flat_map written_line ls ++ x) k.stands ∙ sym (append_assoc _ _ k.rest) ∙ ap (λ x. x ++ k.rest) (sym (flat_map-append written_line ls ms));
   line = omega (arith, h.line, k.line, length-append ls ms);
   fails = k.fails;
 }

@@ -12,7 +12,8 @@ use Rattle.sheet.specs.declared.sheets.Sheet.{Sheet}
 use Rattle.sheet.specs.Fault.{Due, EndDue, due, FaultInLine}
 use Rattle.sheet.specs.Names.{names_of}
 use Rattle.sheet.specs.Reader.{FaultAfter, Passes, NamesSoFar, NamesFault, RulesSoFar, BookFault}
-use Rattle.sheet.specs.Reading.{AtStart, Holds, AcceptedWhenWritten, RefusedByItsFault, ReadWhole, ReadRightly}
+use Rattle.sheet.specs.WholeSheet.{AtStart, ReadWhole}
+use Rattle.sheet.specs.Reading.{Holds, AcceptedWhenWritten, RefusedByItsFault, ReadRightly}
 use Rattle.sheet.specs.Sheet.{Comparison, WellFormed, written, Beginning, Opening, InCues, InLeft, InRight, InOrder, RulesInOrder, lines, whole, book_lines, left_word, right_word}
 use Rattle.sheet.specs.Text.{Text}
 use Rattle.sheet.proofs.OneAnswer.{more_due, none_due, accepted_or_not, one_fault, one_sheet}

@@ -9,7 +9,7 @@ use Rattle.rules.specs.Rule.{Terms}
 use Rattle.book.specs.Draft.{NotAdded}
 use Rattle.book.specs.Held.{most_rules}
 use Rattle.sheet.specs.declared.faults.Fault.{Fault}
-use Rattle.sheet.specs.declared.faults.ReaderRefusal.TheVariants.{TooLong, NotInForm, CountOutside, NameTwice, NoSuchWord, NoSuchName, LeftOver}
+use Rattle.sheet.specs.declared.faults.ReaderRefusal.TheVariants.{TooLong, NotInForm, SectionCountOutside, NameTwice, NoSuchWord, NoSuchName, LeftOver}
 use Rattle.sheet.specs.declared.faults.Refusal.{Refusal}
 use Rattle.sheet.specs.declared.faults.Refusal.TheVariants.{Reader, Draft}
 use Rattle.sheet.specs.Names.{Named}
@@ -64,7 +64,7 @@ IsRule P line = (t : Template) × (fs : List Text) × (line ≡ Some (template_w
 -- Why a section's line fails: it is missing or not of its form; or its count is outside the limits.
 abbrev pub SectionFails : Text → ℕ → ℕ → Option (List Text) → Refusal → Type 0
 SectionFails word least most line (Reader NotInForm) = IsSection word (λ n. ⊤) line → ⊥
-SectionFails word least most line (Reader CountOutside) = IsSection word (λ n. (least ≤ n) × (n ≤ most) → ⊥) line
+SectionFails word least most line (Reader SectionCountOutside) = IsSection word (λ n. (least ≤ n) × (n ≤ most) → ⊥) line
 SectionFails word least most line r = ⊥
 
 -- Why a name's line fails: it is missing or not of its form; or the name stands already.

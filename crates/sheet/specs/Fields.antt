@@ -17,9 +17,9 @@ abbrev pub RestInSheet : Option Stretch → Type 0
 RestInSheet rest = (s : Stretch) → rest ≡ Some s → InSheet s
 
 -- The fields that are left of a line.
-abbrev pub left_in : Option Stretch → List Text
-left_in None = []
-left_in (Some s) = fields s.text.now
+abbrev pub rest_in : Option Stretch → List Text
+rest_in None = []
+rest_in (Some s) = fields s.text.now
 
 -- A part begins where the rest of a line does; and the rest follows a part, with one byte between.
 abbrev pub Begins : Option Stretch → Stretch → Type 0

@@ -7,4 +7,5 @@ pub mod Fault
 pub mod Lines
 pub mod RuleLines
 pub mod Reading
+pub mod WholeSheet
 pub mod Reader

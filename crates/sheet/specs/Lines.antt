@@ -1,6 +1,6 @@
 -- Lines that are read, and what is read of them.
 -- Assumes nothing.
-use Rattle.std.specs.Prelude.{◌≡◌, ℕ, ◌≤◌, ◌++◌, List, [], ◌∷◌, Option, Some, option_map, Result, MatchResult, MatchOption, min, ⊤}
+use Rattle.std.specs.Prelude.{◌≡◌, ℕ, ◌≤◌, ◌++◌, List, [], ◌∷◌, Option, Some, option_map, Result, MatchResult, MatchOption, min}
 use Rattle.rules.specs.declared.templates.Arguments.{Arguments}
 use Rattle.rules.specs.declared.templates.Template.{Template}
 use Rattle.rules.specs.Naming.{template_word}
@@ -13,17 +13,17 @@ use Rattle.sheet.specs.declared.lines.Line.{Line}
 use Rattle.sheet.specs.declared.names.Names.{Names}
 use Rattle.sheet.specs.declared.stretches.Stretch.{Stretch}
 use Rattle.sheet.specs.Fault.{NameFails, IsArguments, SectionFails}
-use Rattle.sheet.specs.Fields.{left_in, Begins, SecondIs}
+use Rattle.sheet.specs.Fields.{rest_in, Begins, SecondIs}
 use Rattle.sheet.specs.Names.{Named, field_text, fields_of, names_of}
 use Rattle.sheet.specs.Sheet.{section_line, name_line}
 use Rattle.sheet.specs.Text.{Text, NameForm, WordForm}
 
 -- The fields that are left of a line, and those of a line where there is one.
-abbrev pub left_of : Line → List Text
-left_of l = left_in l.rest
+abbrev pub rest_of : Line → List Text
+rest_of l = rest_in l.rest
 
 abbrev pub fields_in : Option Line → Option (List Text)
-fields_in line = option_map left_of line
+fields_in line = option_map rest_of line
 
 -- Reading a section's line: its count, within the limits; or why it fails.
 abbrev pub ReadSection : Result ℕ Refusal → Text → ℕ → ℕ → Option (List Text) → Type 0
@@ -49,14 +49,15 @@ ReadArguments answer taken fs = MatchOption answer
     ((x y : Text) (n : ℕ) → IsArguments taken fs x y n → ⊥)
     (λ p. (y : Text) × (n : ℕ) × IsArguments taken fs (field_text p.0) y n × SecondIs taken p.1 y n)
 
--- The name that follows, where one does, is that of cue b; the count that follows, where one does, is k, or more than a byte holds.
+-- The name that follows is that of cue b, and b is 0 where none follows; the count that follows is k, or k is 255 where it is more,
+-- and 0 where none follows.
 abbrev pub SecondNamed : List Text → Option Field → ℕ → Type 0
 SecondNamed names (Some (Name s)) b = Named names s.text.now b
-SecondNamed names second b = ⊤
+SecondNamed names second b = b ≡ 0
 
 abbrev pub SecondCounted : Option Field → ℕ → Type 0
 SecondCounted (Some (Number s n)) k = k ≡ min n 255
-SecondCounted second k = ⊤
+SecondCounted second k = k ≡ 0
 
 -- Looking up the names of a rule's arguments: cues and a count; or none, where a cue has no such name.
 abbrev pub ReadCues : Option (ℕ × ℕ × ℕ) → List Text → Field → Option Field → Type 0

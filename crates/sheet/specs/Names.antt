@@ -39,6 +39,6 @@ CueOf found names x = MatchOption found ((c : ℕ) → Named names x c → ⊥) 
 abbrev pub Different : List Text → Type 0
 Different names = (c d : ℕ) (x : Text) → Named names x c → Named names x d → c ≡ d
 
--- The name of a cue.
+-- The name of a cue; of what is no cue, the empty text.
 abbrev pub name_of : List Text → ℕ → Text
 name_of names c = get_or names c []

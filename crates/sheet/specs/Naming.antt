@@ -6,7 +6,7 @@ use Rattle.sheet.specs.declared.faults.Fault.{Fault}
 use Rattle.sheet.specs.declared.faults.Layer.{Layer}
 use Rattle.sheet.specs.declared.faults.Layer.TheVariants as layer
 use Rattle.sheet.specs.declared.faults.ReaderRefusal.{ReaderRefusal}
-use Rattle.sheet.specs.declared.faults.ReaderRefusal.TheVariants.{TooLong, NotInForm, CountOutside, NameTwice, NoSuchWord, NoSuchName, LeftOver}
+use Rattle.sheet.specs.declared.faults.ReaderRefusal.TheVariants.{TooLong, NotInForm, SectionCountOutside, NameTwice, NoSuchWord, NoSuchName, LeftOver}
 use Rattle.sheet.specs.declared.faults.Refusal.{Refusal}
 use Rattle.sheet.specs.declared.faults.Refusal.TheVariants.{Reader, Draft}
 
@@ -14,7 +14,7 @@ use Rattle.sheet.specs.declared.faults.Refusal.TheVariants.{Reader, Draft}
 abbrev pub reader_number : ReaderRefusal → ℕ
 reader_number TooLong = 1
 reader_number NotInForm = 2
-reader_number CountOutside = 3
+reader_number SectionCountOutside = 3
 reader_number NameTwice = 4
 reader_number NoSuchWord = 5
 reader_number NoSuchName = 6
@@ -37,7 +37,7 @@ layer_word layer.Draft = codes "draft"
 abbrev pub reader_words : ReaderRefusal → List ℕ
 reader_words TooLong = codes "the sheet has more than 16,384 bytes"
 reader_words NotInForm = codes "the line that is due is missing, or not of its form"
-reader_words CountOutside = codes "the count of the section is outside its limits"
+reader_words SectionCountOutside = codes "the count of the section is outside its limits"
 reader_words NameTwice = codes "the name stands already"
 reader_words NoSuchWord = codes "no template has this word"
 reader_words NoSuchName = codes "no cue has this name"

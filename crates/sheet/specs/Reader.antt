@@ -13,7 +13,7 @@ use Rattle.sheet.specs.declared.lines.Line.{Line}
 use Rattle.sheet.specs.declared.names.Names.{Names}
 use Rattle.sheet.specs.declared.reader.Reader.{Reader}
 use Rattle.sheet.specs.Fault.{Due, SectionDue, NameDue, RuleDue, Fails, line_of}
-use Rattle.sheet.specs.Lines.{left_of, fields_in}
+use Rattle.sheet.specs.Lines.{rest_of, fields_in}
 use Rattle.sheet.specs.Names.{Named, fields_of, names_of}
 use Rattle.sheet.specs.Sheet.{RuleRight, NamesInOrder, RulesInOrder, cues_word, cues_lines, book_lines, most_names, name_line, rule_line}
 use Rattle.sheet.specs.Text.{Text, NameForm, written_line}
@@ -22,8 +22,8 @@ use Rattle.sheet.specs.Text.{Text, NameForm, written_line}
 abbrev pub read_by : Reader → Text
 read_by r = take r.at r.sheet.now
 
-abbrev pub left_to : Reader → Text
-left_to r = drop r.at r.sheet.now
+abbrev pub rest_for : Reader → Text
+rest_for r = drop r.at r.sheet.now
 
 -- A reader goes past lines of the same sheet.
 pub record Passes (ls : List (List Text)) (before after : Reader) : Type 0 where
@@ -34,7 +34,7 @@ pub record Passes (ls : List (List Text)) (before after : Reader) : Type 0 where
 -- A reader would go past lines, and then meets a fault in the next, where this is due.
 pub record FaultAfter (ls : List (List Text)) (d : Due) (before : Reader) (f : Fault) : Type 0 where
   pub rest : Text
-  pub stands : left_to before ≡ flat_map written_line ls ++ rest
+  pub stands : rest_for before ≡ flat_map written_line ls ++ rest
   pub line : f.line ≡ before.line + length ls
   pub fails : Fails d rest f.refusal
 
@@ -46,12 +46,12 @@ ReadLine answer Says d before after = MatchResult answer
 
 -- A line that stands where the reader does, and goes past it.
 pub record LineAt (l : Line) (before after : Reader) : Type 0 where
-  pub passes : Passes (left_of l ∷ []) before after
+  pub passes : Passes (rest_of l ∷ []) before after
   pub place : (s : Stretch) → l.rest ≡ Some s → (s.line ≡ before.line) × (s.at ≡ before.at)
 
 -- The next line, read as fields, where a whole one is left.
 abbrev pub NextLine : Option Line → Reader → Reader → Type 0
-NextLine found before after = (fields_in found ≡ line_of (left_to before)) × MatchOption found (after ≡ before) (λ l. LineAt l before after)
+NextLine found before after = (fields_in found ≡ line_of (rest_for before)) × MatchOption found (after ≡ before) (λ l. LineAt l before after)
 
 -- A name is taken, where the reader stands: it is in form, and no other stood before.
 pub record TakesName (r : Reader) (before after : Names) (fs : List Text) : Type 0 where

@@ -1,20 +1,18 @@
 -- What reading a sheet answers.
 -- Assumes nothing.
-use Rattle.std.specs.Prelude.{◌≡◌, ℕ, ◌+◌, ◌<◌, ◌⊎◌, ◌↔◌, List, length, take, slice_get, Some, Ok, Err, Result, MatchResult}
+use Rattle.std.specs.Prelude.{◌≡◌, ℕ, ◌+◌, ◌⊎◌, ◌↔◌, List, length, take, slice_get, Some, Ok, Err, Result, MatchResult}
 use Rattle.book.specs.declared.drafts.DraftRefusal.{DraftRefusal}
 use Rattle.book.specs.declared.drafts.DraftRefusal.TheVariants as draft
 use Rattle.book.specs.Draft.{draft_content}
 use Rattle.sheet.specs.declared.faults.Fault.{Fault}
 use Rattle.sheet.specs.declared.fields.Field.{Field}
 use Rattle.sheet.specs.declared.fields.Field.TheVariants.{Name}
-use Rattle.sheet.specs.declared.reader.Reader.{Reader}
 use Rattle.sheet.specs.declared.sheets.Sheet.{Sheet}
 use Rattle.sheet.specs.declared.stretches.Stretch.{Stretch}
 use Rattle.sheet.specs.declared.faults.Refusal.TheVariants as refusal
-use Rattle.sheet.specs.declared.faults.ReaderRefusal.TheVariants.{TooLong}
-use Rattle.sheet.specs.Fault.{FaultInLine, FaultOf}
+use Rattle.sheet.specs.Fault.{FaultOf}
 use Rattle.sheet.specs.Names.{fields_of, names_of}
-use Rattle.sheet.specs.Sheet.{Comparison, InCues, begins, WellFormed, written, most_bytes}
+use Rattle.sheet.specs.Sheet.{Comparison, InCues, begins, WellFormed, written}
 use Rattle.sheet.specs.Text.{Text}
 
 -- The name of cue c stands in line c + 2, behind all lines before.
@@ -46,23 +44,10 @@ AcceptedWhenWritten answer sheet = (s : Comparison) → Accepts answer s ↔ (We
 abbrev pub RefusedByItsFault : Result Sheet Fault → Text → Type 0
 RefusedByItsFault answer sheet = (f : Fault) → Refuses answer f ↔ FaultOf sheet f
 
--- Of a draft's refusals, a sheet's fault is one of these two at most: a count outside its limits, or one cue twice.
+-- A theorem that reading carries: of a draft's refusals, a sheet's fault is one of these two at most, a count outside its limits or one
+-- cue twice.
 unfoldable pub OnlyTheseOfADraft : Type 0
 OnlyTheseOfADraft = (sheet : Text) (f : Fault) (e : DraftRefusal) → FaultOf sheet f → f.refusal ≡ refusal.Draft e → (e ≡ draft.CountOutside) ⊎ (e ≡ draft.SameCue)
-
--- A reader stands before all lines.
-pub record AtStart (r : Reader) : Type 0 where
-  pub at : r.at ≡ 0
-  pub line : r.line ≡ 1
-
--- Beginning to read: before all lines of the sheet, unless it is too long.
-abbrev pub Begun : Result Reader Fault → Text → Type 0
-Begun answer sheet = MatchResult answer (λ r. (r.sheet.now ≡ sheet) × AtStart r)
-    (λ f. (most_bytes < length sheet) × (f.refusal ≡ refusal.Reader TooLong) × (f.line ≡ 0))
-
--- Reading a whole sheet, from its start: what it says, and that it is written so; or a fault in one of its lines.
-abbrev pub ReadWhole : Result Sheet Fault → Text → Type 0
-ReadWhole answer sheet = MatchResult answer (λ r. (s : Comparison) × Holds r s × WellFormed s × (written s ≡ sheet)) (λ f. FaultInLine sheet f)
 
 -- Reading a sheet: what it says, and that it is written so; or its fault.
 abbrev pub ReadRightly : Result Sheet Fault → Text → Type 0

@@ -76,7 +76,7 @@ begins b = flat_map written_line (lines b)
 abbrev pub RuleRight : ℕ → Terms → Type 0
 RuleRight count r = CuesBelow count r.template r.a r.b × InForm (arguments_of r.template) r.a r.b r.n
 
--- Names are in order in a section of n: they are in form, and no two of them are the same.
+-- Names are in order in a section of n: n is 1 to 32, there are at most n, they are in form, and no two of them are the same.
 pub record NamesInOrder (n : ℕ) (names : List Text) : Type 0 where
   pub some : 1 ≤ n
   pub few : n ≤ most_names
@@ -84,7 +84,7 @@ pub record NamesInOrder (n : ℕ) (names : List Text) : Type 0 where
   pub forms : All NameForm names
   pub different : Different names
 
--- Rules are in order in a section of n: they are right.
+-- Rules are in order in a section of n: n is at most 16, there are at most n, and they are right.
 pub record RulesInOrder (names : List Text) (n : ℕ) (rules : List Terms) : Type 0 where
   pub few : n ≤ most_rules
   pub room : length rules ≤ n

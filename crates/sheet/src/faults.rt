@@ -12,7 +12,7 @@ pub enum ReaderRefusal {
     /// The line that is due is missing, or not of its form.
     NotInForm = 2,
     /// The count of a section is outside its limits.
-    CountOutside = 3,
+    SectionCountOutside = 3,
     /// The name stands already.
     NameTwice = 4,
     /// No template has this word.

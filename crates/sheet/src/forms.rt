@@ -34,7 +34,7 @@ fn is_numeral(text: &[u8]) -> bool
     text.iter().all(|b| b.is_ascii_digit()) && (text.len() == 1 || text.first() != Some(&b'0'))
 }
 
-// What up to three digits are worth, where there are as many and some.
+// What digits are worth, where there are one to three.
 fn value(digits: &[u8]) -> Option<u16>
     ensures { MatchOption result (length digits.now ≡ 0 ⊎ 3 < length digits.now) (λ n. (1 ≤ length digits.now) × (length digits.now ≤ 3) × (n ≡ worth digits.now)) }
 {

@@ -1,6 +1,6 @@
 //! Lines, read field by field.
 ghost use Rattle.std.specs.Prelude.{◌≡◌, [], ◌∷◌, Some, None, MatchOption};
-ghost use Rattle.sheet.specs.Fields.{InSheet, RestInSheet, Begins, Follows, left_in};
+ghost use Rattle.sheet.specs.Fields.{InSheet, RestInSheet, Begins, Follows, rest_in};
 
 use crate::stretches::Stretch;
 
@@ -24,8 +24,8 @@ impl<'a> Line<'a> {
 
     // The next field, where one is left.
     pub(crate) fn field(&mut self) -> Option<Stretch<'a>>
-        ensures { MatchOption result ((left_in self.old.rest ≡ []) × (self.new ≡ self.old))
-            (λ s. (left_in self.old.rest ≡ s.text.now ∷ left_in self.new.rest) × Begins self.old.rest s × Follows s self.new.rest) }
+        ensures { MatchOption result ((rest_in self.old.rest ≡ []) × (self.new ≡ self.old))
+            (λ s. (rest_in self.old.rest ≡ s.text.now ∷ rest_in self.new.rest) × Begins self.old.rest s × Follows s self.new.rest) }
     {
         let rest = self.rest?;
         match rest.cut(SPACE) {

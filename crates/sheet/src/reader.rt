@@ -3,7 +3,7 @@ ghost use Rattle.std.specs.Prelude.{◌+◌, ◌≤◌, length};
 
 mod reading;
 
-/// A sheet that is being read, and how far: up to a byte, with which a line begins.
+/// A sheet that is being read, and how far: up to a byte, at which the line of this number begins or the sheet ends.
 #[derive(Drop)]
 pub(crate) struct Reader<'a> {
     sheet: &'a [u8],

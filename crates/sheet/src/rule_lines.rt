@@ -3,7 +3,7 @@ ghost use Rattle.std.specs.Prelude.{◌≡◌, [], ◌∷◌, length, Some, Matc
 ghost use Rattle.rules.specs.Naming.{template_word};
 ghost use Rattle.book.specs.Draft.{draft_content};
 ghost use Rattle.sheet.specs.declared.faults.Refusal.TheVariants.{Reader};
-ghost use Rattle.sheet.specs.Lines.{left_of, fields_in, ReadTemplate, ReadArguments, ReadCues};
+ghost use Rattle.sheet.specs.Lines.{rest_of, fields_in, ReadTemplate, ReadArguments, ReadCues};
 ghost use Rattle.sheet.specs.RuleLines.{ReadAsked, ReadRule};
 ghost use Rattle.sheet.specs.Names.{field_text, names_of};
 
@@ -53,7 +53,7 @@ fn asked_by(line: Option<Line<'_>>, names: &Names<'_>) -> Result<Asked, ReaderRe
 
 // Reads the first field of a line as the word of a template.
 fn template(line: &mut Line<'_>) -> Result<Template, ReaderRefusal>
-    ensures { ReadTemplate result (left_of line.old) (left_of line.new) }
+    ensures { ReadTemplate result (rest_of line.old) (rest_of line.new) }
 {
     let word = line
         .field()
@@ -64,7 +64,7 @@ fn template(line: &mut Line<'_>) -> Result<Template, ReaderRefusal>
 
 // Reads what is left of a line as the arguments that a template takes: a name, and what follows it.
 fn arguments<'a>(taken: Arguments, mut line: Line<'a>) -> Option<(Field<'a>, Option<Field<'a>>)>
-    ensures { ReadArguments result taken (left_of line.entry) }
+    ensures { ReadArguments result taken (rest_of line.entry) }
 {
     let first = Field::name(line.field()?)?;
     let second = line.field();

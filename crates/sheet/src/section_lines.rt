@@ -21,7 +21,7 @@ pub(crate) fn section(
     let count = counted(line, word).ok_or(ReaderRefusal::NotInForm)?;
     match u8::try_from(count) {
         Ok(count) if (least..=most).contains(&count) => Ok(count),
-        _ => Err(ReaderRefusal::CountOutside.into()),
+        _ => Err(ReaderRefusal::SectionCountOutside.into()),
     }
 }
 

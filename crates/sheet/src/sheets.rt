@@ -1,5 +1,5 @@
 //! Sheets.
-ghost use Rattle.sheet.specs.Reading.{AcceptedWhenWritten, RefusedByItsFault, OnlyTheseOfADraft};
+ghost use Rattle.sheet.specs.Reading.{ReadRightly, AcceptedWhenWritten, RefusedByItsFault, OnlyTheseOfADraft};
 
 use crate::faults::Fault;
 use crate::names::Names;
@@ -26,6 +26,7 @@ impl<'a> Sheet<'a> {
     /// order.
     #[tactic(auto, using(crate::proofs::DraftsOwn::only_these))]
     pub fn read(sheet: &'a [u8]) -> Result<Sheet<'a>, Fault>
+        ensures answered { ReadRightly result sheet.now }
         ensures accepted { AcceptedWhenWritten result sheet.now }
         ensures refused { RefusedByItsFault result sheet.now }
         ensures drafts { OnlyTheseOfADraft }

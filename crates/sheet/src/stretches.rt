@@ -13,7 +13,9 @@ pub struct Stretch<'a> {
 
 impl<'a> Stretch<'a> {
     // No part.
-    pub(crate) fn nothing() -> Stretch<'a> {
+    pub(crate) fn nothing() -> Stretch<'a>
+        ensures { (result.text.now ≡ []) × (result.line ≡ 0) × (result.at ≡ 0) }
+    {
         Stretch {
             text: &[],
             line: 0,
@@ -21,8 +23,8 @@ impl<'a> Stretch<'a> {
         }
     }
 
-    #[tactic(auto, using(crate::proofs::Cut::uncut))]
     // Cuts at the first byte of a kind, where there is one: what stands before it, and what stands behind.
+    #[tactic(auto, using(crate::proofs::Cut::uncut))]
     pub(crate) fn cut(&self, byte: u8) -> Option<(Stretch<'a>, Stretch<'a>)>
         requires { InSheet self.now }
         ensures { MatchOption result (parts byte self.now.text.now ≡ self.now.text.now ∷ [])

@@ -18,8 +18,8 @@ pub(crate) fn template_of(word: &[u8]) -> Option<Template>
     None
 }
 
-#[tactic(auto, using(crate::proofs::Naming::one_number))]
 // The template of a number, where there is one and this is its word.
+#[tactic(auto, using(crate::proofs::Places::one_number))]
 fn with_word(number: u8, word: &[u8]) -> Option<Template>
     ensures { MatchOption result ((t : _) → template_number t ≡ number → word.now ≡ template_word t → ⊥) (λ t. word.now ≡ template_word t) }
 {

@@ -81,7 +81,7 @@ impl fmt::Display for ReaderRefusal {
         f.write_str(match self {
             ReaderRefusal::TooLong => "the sheet has more than 16,384 bytes",
             ReaderRefusal::NotInForm => "the line that is due is missing, or not of its form",
-            ReaderRefusal::CountOutside => "the count of the section is outside its limits",
+            ReaderRefusal::SectionCountOutside => "the count of the section is outside its limits",
             ReaderRefusal::NameTwice => "the name stands already",
             ReaderRefusal::NoSuchWord => "no template has this word",
             ReaderRefusal::NoSuchName => "no cue has this name",
@@ -109,5 +109,9 @@ impl fmt::Display for Fault {
         write!(f, "line {line}: {refusal}")
     }
 }
+
+impl Error for ReaderRefusal {}
+
+impl Error for Refusal {}
 
 impl Error for Fault {}

@@ -31,7 +31,7 @@ impl<'a> Names<'a> {
         Some(self.field(cue)?.text())
     }
 
-    /// The cue that has a name, where one has it. No two cues of a sheet that was read have one name.
+    /// The first cue that has a name, where one has it. No two cues of a sheet that was read have one name.
     pub fn cue(&self, name: &[u8]) -> Option<u8>
         ensures { CueOf result (names_of self.now) name.now }
     {

@@ -4,7 +4,7 @@ ghost use Rattle.book.specs.Draft.{draft_content};
 ghost use Rattle.sheet.specs.Fault.{SectionDue, NameDue, RuleDue, EndDue};
 ghost use Rattle.sheet.specs.Names.{fields_of, names_of};
 ghost use Rattle.sheet.specs.Reader.{NextLine, ReadLine, ReadNames, ReadBook, TakesName, TakesRule, FaultAfter};
-ghost use Rattle.sheet.specs.Reading.{AtStart, Begun, ReadWhole};
+ghost use Rattle.sheet.specs.WholeSheet.{AtStart, Begun, ReadWhole};
 ghost use Rattle.sheet.specs.Sheet.{section_line};
 
 use super::Reader;

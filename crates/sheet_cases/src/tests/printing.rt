@@ -1,7 +1,9 @@
 //! What is printed of faults, refusals and layers.
 use book::DraftRefusal::{self, CountOutside, SameCue};
 use machine::Numbered;
-use sheet::ReaderRefusal::{self, LeftOver, NameTwice, NoSuchName, NoSuchWord, NotInForm, TooLong};
+use sheet::ReaderRefusal::{
+    self, LeftOver, NameTwice, NoSuchName, NoSuchWord, NotInForm, SectionCountOutside, TooLong,
+};
 use sheet::{Fault, Refusal, Sheet};
 use std::alloc::Global;
 use std::process::Abort;
@@ -16,7 +18,7 @@ const BY_READER: [(ReaderRefusal, u8, &str); 7] = [
         "the line that is due is missing, or not of its form",
     ),
     (
-        ReaderRefusal::CountOutside,
+        SectionCountOutside,
         3,
         "the count of the section is outside its limits",
     ),

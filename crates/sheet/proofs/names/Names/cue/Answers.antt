@@ -1,7 +1,7 @@
 use Rattle.std.proofs.Common.{arith}
 use Rattle.std.proofs.lemmas.Option.{slice_get_within}
 use Rattle.sheet.specs.Names.{names_of, Named}
-use Rattle.sheet.proofs.Naming.{below_next}
+use Rattle.sheet.proofs.Places.{below_next}
 use Rattle.sheet.proofs.names.Names.cue.Goals as goal
 
 pub loop-cue-preserved : goal.loop-cue-preserved

@@ -1,6 +1,6 @@
 use Rattle.std.proofs.Common.{arith, refl}
 use Rattle.std.proofs.lemmas.Grind.{take-set_at}
-use Rattle.sheet.proofs.Naming.{fields_long}
+use Rattle.sheet.proofs.Places.{fields_long}
 use Rattle.sheet.proofs.names.Names.push.Goals as goal
 
 pub returns : goal.returns
