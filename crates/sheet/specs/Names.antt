@@ -7,7 +7,7 @@ use Rattle.sheet.specs.declared.names.Names.{Names}
 use Rattle.sheet.specs.declared.stretches.Stretch.{Stretch}
 use Rattle.sheet.specs.Text.{Text}
 
--- The part of the sheet where a field stands, and its bytes.
+-- The part of the sheet where a field stands, its bytes, the line in which it stands and the byte at which it begins.
 abbrev pub field_stretch : Field → Stretch
 field_stretch (Word s) = s
 field_stretch (Name s) = s
@@ -15,6 +15,12 @@ field_stretch (Number s n) = s
 
 abbrev pub field_text : Field → Text
 field_text f = (field_stretch f).text.now
+
+abbrev pub field_line : Field → ℕ
+field_line f = (field_stretch f).line
+
+abbrev pub field_at : Field → ℕ
+field_at f = (field_stretch f).at
 
 -- The fields in which the names stand, in order, and the names.
 abbrev pub fields_of : Names → List Field

@@ -1,7 +1,7 @@
 //! The fields of a line.
 ghost use Rattle.std.specs.Prelude.{◌≡◌, Some, None, MatchOption};
 ghost use Rattle.sheet.specs.declared.fields.Field.TheVariants.{Word, Name, Number};
-ghost use Rattle.sheet.specs.Names.{field_stretch, field_text};
+ghost use Rattle.sheet.specs.Names.{field_stretch, field_text, field_line, field_at};
 ghost use Rattle.sheet.specs.Text.{WordForm, NameForm, IsCount, most_count};
 
 use crate::forms::{count, is_name, is_word};
@@ -65,14 +65,14 @@ impl<'a> Field<'a> {
 
     /// The line in which the field stands, from 1.
     pub fn line(&self) -> u32
-        ensures { result ≡ (field_stretch self.now).line }
+        ensures { result ≡ field_line self.now }
     {
         self.stretch().line
     }
 
     /// The byte of the sheet at which the field begins, from 0.
     pub fn at(&self) -> usize
-        ensures { result ≡ (field_stretch self.now).at }
+        ensures { result ≡ field_at self.now }
     {
         self.stretch().at
     }

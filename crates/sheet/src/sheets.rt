@@ -31,7 +31,7 @@ impl<'a> Sheet<'a> {
         ensures refused { RefusedByItsFault result sheet.now }
         ensures drafts { OnlyTheseOfADraft }
     {
-        let mut reader = Reader::over(sheet)?;
+        let reader = Reader::over(sheet)?;
         reader.whole()
     }
 }

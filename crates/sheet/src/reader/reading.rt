@@ -41,9 +41,9 @@ impl<'a> Reader<'a> {
     }
 
     // Reads all of a sheet.
-    pub(crate) fn whole(&mut self) -> Result<Sheet<'a>, Fault>
-        requires start { AtStart self.old }
-        ensures { ReadWhole result self.old.sheet.now }
+    pub(crate) fn whole(mut self) -> Result<Sheet<'a>, Fault>
+        requires start { AtStart self }
+        ensures { ReadWhole result self.entry.sheet.now }
     {
         let names = self.names()?;
         let left = self.book(b"left", &names)?;
