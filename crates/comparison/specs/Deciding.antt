@@ -1,0 +1,43 @@
+-- What deciding two machines on a bench promises.
+-- Assumes nothing.
+use Rattle.std.specs.Prelude.{◌≡◌, List, ℕ, ◌++◌, Err, codes, decimal}
+use Rattle.machine.specs.Meaning.{Meaning}
+use Rattle.search.specs.declared.states.Verdict.{Verdict}
+use Rattle.search.specs.declared.states.Verdict.TheVariants.{Unlike}
+use Rattle.search.specs.declared.states.ShowRefusal.TheVariants.{NoShow}
+use Rattle.search.specs.Search.{recorded, after}
+use Rattle.search.specs.Calls.{Written, verdict_word}
+use Rattle.search.specs.Truth.{TrueVerdict}
+use Rattle.search.specs.Units.{RecordedInRank}
+use Rattle.search.specs.Runs.{ShowTold}
+use Rattle.bench.specs.Cells.{limit}
+use Rattle.comparison.specs.declared.deciding.Decision.{Decision}
+use Rattle.comparison.specs.declared.deciding.Tally.{Tally}
+
+-- A tally is that of the search of two machines, and the joint positions that it counts as recorded are the first in rank.
+pub record TallyOf (l r : Meaning) (t : Tally) : Type 0 where
+  pub worked : t.worked ≡ (after l r limit limit).worked
+  pub recorded : t.recorded ≡ recorded (after l r limit limit)
+  pub ranked : RecordedInRank l r limit limit
+
+-- Of machines with equally many cues: the verdict is the true one, the tally is that of the search, and the show found is the first
+-- that divides the machines. The buffer held the first bytes before, and holds the second now.
+pub record Decided {L R : Type 0} (l r : Meaning) (d : Decision L R) (before now' : List ℕ) : Type 0 where
+  pub verdict : TrueVerdict l r limit d.verdict
+  pub tally : TallyOf l r d.tally
+  pub show : ShowTold l r limit d.verdict before (Written d.length now')
+
+-- Of machines with different cue counts: nothing is compared, and the buffer is as it was.
+pub record NotCompared {L R : Type 0} (d : Decision L R) (before now' : List ℕ) : Type 0 where
+  pub verdict : d.verdict ≡ Unlike
+  pub worked : d.tally.worked ≡ 0
+  pub recorded : d.tally.recorded ≡ 0
+  pub show : d.length ≡ Err NoShow
+  pub buffer : now' ≡ before
+
+-- What is printed of a tally, and of a verdict with its tally.
+abbrev pub tally_text : Tally → List ℕ
+tally_text t = decimal t.worked ++ codes " " ++ decimal t.recorded
+
+abbrev pub told : Verdict → Tally → List ℕ
+told v t = verdict_word v ++ codes " " ++ tally_text t

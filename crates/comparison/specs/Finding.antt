@@ -1,0 +1,79 @@
+-- What comparing the two books of a sheet finds, said of its shows and its rules.
+-- Assumes nothing.
+use Rattle.std.specs.Prelude.{◌≡◌, ℕ, ◌<◌, ⊤}
+use Rattle.machine.specs.Show.{Show}
+use Rattle.machine.specs.Meaning.{Meaning}
+use Rattle.search.specs.declared.states.Verdict.{Verdict}
+use Rattle.search.specs.declared.states.Verdict.TheVariants as verdict
+use Rattle.search.specs.Rank.{NoLater, MoreThan, AtMost, FirstInRank}
+use Rattle.search.specs.Truth.{FirstDifference, AllEqual, TooMany}
+use Rattle.bench.specs.Cells.{limit}
+use Rattle.sheet.specs.Sheet.{Comparison}
+use Rattle.comparison.specs.declared.outcomes.Finding.{Finding}
+use Rattle.comparison.specs.declared.outcomes.Finding.TheVariants.{Equal, Left, Right, Full}
+use Rattle.comparison.specs.Books.{left_machine, right_machine, IsShow, OnlyLeft, OnlyRight, DividesBooks}
+
+-- The verdict of a finding.
+abbrev pub verdict_of : Finding → Verdict
+verdict_of Equal = verdict.Equal
+verdict_of (Left t) = verdict.Left
+verdict_of (Right t) = verdict.Right
+verdict_of Full = verdict.Full
+
+-- This is so of the show found, where there is one.
+abbrev pub IfShown : Finding → (Show → Type 0) → Type 0
+IfShown (Left t) P = P t
+IfShown (Right t) P = P t
+IfShown f P = ⊤
+
+-- What comparing two machines finds.
+module _ (l r : Meaning) where
+  -- The show is the first that divides the machines, and the machine of this verdict allows it; and one of the joint positions that a
+  -- bench can record divides.
+  abbrev pub IsFirst : Verdict → Show → Type 0
+  IsFirst v t = FirstDifference l r v t × (TooMany l r limit → ⊥)
+
+  abbrev pub MachinesFinding : Finding → Type 0
+  MachinesFinding Equal = AllEqual l r limit
+  MachinesFinding (Left t) = IsFirst verdict.Left t
+  MachinesFinding (Right t) = IsFirst verdict.Right t
+  MachinesFinding Full = TooMany l r limit
+
+-- What comparing the two books of a sheet finds.
+module _ (s : Comparison) where
+  -- No show of any length divides the books.
+  abbrev pub NoneDivides : Type 0
+  NoneDivides = (t : Show) → IsShow s t → DividesBooks s t → ⊥
+
+  -- There are k joint positions that are the first in rank, and none of their first shows divides the books.
+  pub record NoneOfTheFirst (k : ℕ) : Type 0 where
+    pub shows : ℕ → Show
+    pub first : FirstInRank (left_machine s) (right_machine s) k shows
+    pub none : (i : ℕ) → i < k → DividesBooks s (shows i) → ⊥
+
+  -- No show divides the books, and they have at most as many joint positions as a bench can record.
+  abbrev pub AreEqual : Type 0
+  AreEqual = NoneDivides × AtMost (left_machine s) (right_machine s) limit
+
+  -- They have more, and none of the first so many in rank divides them.
+  abbrev pub AreTooMany : Type 0
+  AreTooMany = MoreThan (left_machine s) (right_machine s) limit × NoneOfTheFirst limit
+
+  -- A show of the sheet, of which this is so, and every other that divides the books comes later.
+  pub record FirstThatDivides (Only : Show → Type 0) (t : Show) : Type 0 where
+    pub show : IsShow s t
+    pub only : Only t
+    pub first : (u : Show) → IsShow s u → DividesBooks s u → NoLater t u
+    -- one of the joint positions that a bench can record divides the books
+    pub within : AreTooMany → ⊥
+
+  -- What is found.
+  abbrev pub FindingOf : Finding → Type 0
+  FindingOf Equal = AreEqual
+  FindingOf (Left t) = FirstThatDivides (OnlyLeft s) t
+  FindingOf (Right t) = FirstThatDivides (OnlyRight s) t
+  FindingOf Full = AreTooMany
+
+-- The theorem of findings: of no sheet two findings are so.
+unfoldable pub OneFinding : Type 0
+OneFinding = (s : Comparison) (f g : Finding) → FindingOf s f → FindingOf s g → f ≡ g

@@ -1,0 +1,5 @@
+pub mod Deciding
+pub mod Books
+pub mod Finding
+pub mod Outcome
+pub mod Printing

@@ -1,0 +1,42 @@
+//! From the bytes of a sheet to its outcome.
+ghost use Rattle.std.specs.Prelude.{◌≡◌};
+ghost use Rattle.sheet.specs.Reading.{Holds};
+ghost use Rattle.sheet.specs.Sheet.{WellFormed};
+ghost use Rattle.comparison.specs.Books.{JointPositions};
+ghost use Rattle.comparison.specs.Finding.{OneFinding};
+ghost use Rattle.comparison.specs.Outcome.{ReportOf, RefusedByItsFault, ReportedAsWritten, OutcomeOf};
+ghost use Rattle.comparison.specs.Printing.{outcome_text, PrintedFor};
+
+use crate::books::books_compared;
+use crate::outcomes::Outcome;
+use crate::reports::Report;
+use sheet::Sheet;
+
+/// Compares the two books of a sheet.
+pub fn compared(sheet: &[u8]) -> Outcome<'_>
+    ensures outcome { OutcomeOf result sheet.now }
+    ensures refused { RefusedByItsFault result sheet.now }
+    ensures reported { ReportedAsWritten result sheet.now }
+    ensures printed { PrintedFor sheet.now (outcome_text result) }
+    ensures one { OneFinding }
+    ensures positions { JointPositions }
+{
+    match Sheet::read(sheet) {
+        Ok(sheet) => Outcome::Compared(report(sheet)),
+        Err(fault) => Outcome::Refused(fault),
+    }
+}
+
+// Compares the two books of a sheet that was read.
+fn report(sheet: Sheet<'_>) -> Report<'_>
+    requires { (s : _) × Holds sheet.entry s × WellFormed s }
+    ensures { (s : _) → Holds sheet.entry s → WellFormed s → ReportOf s result }
+{
+    let Sheet { names, left, right } = sheet;
+    let (finding, tally) = books_compared(left.seal(), right.seal());
+    Report {
+        names,
+        finding,
+        tally,
+    }
+}
