@@ -1,7 +1,7 @@
 -- A position to which a show leads is read as the show.
 -- Assumes nothing.
-use Rattle.std.proofs.Common.{◌≡◌, ℕ, ◌<◌, ◌≤◌, ◌↔◌, Bool, ◌++◌, inl, inr, sym, ap, ◌∙◌, refl, arith, Ok, Err, Result, Option, Some, None, unwrap_or, option_map, slice_get, take}
-use Rattle.std.proofs.lemmas.Option.{slice_get_within, slice_get-map}
+use Rattle.std.proofs.Common.{◌≡◌, ℕ, ◌<◌, ◌≤◌, ◌↔◌, Bool, ◌++◌, inl, inr, sym, ap, ◌∙◌, refl, arith, Ok, Err, Result}
+use Rattle.std.proofs.lemmas.Option.{slice_get_within}
 use Rattle.machine.specs.Show.{Show, Cued}
 use Rattle.machine.specs.Meaning.{leads_to}
 use Rattle.rules.specs.declared.rules.Rule.{Rule}
@@ -9,30 +9,21 @@ use Rattle.rules.specs.Rule.{Terms, terms, states_of, state_after, word_of}
 use Rattle.rules.proofs.Numbering.{rule_states}
 use Rattle.rules.proofs.Walks.{closes_where_it_holds}
 use Rattle.book.specs.declared.books.Book.{Book}
-use Rattle.book.specs.declared.held.Held.{Held}
 use Rattle.book.specs.declared.values.Value.{Value}
 use Rattle.book.specs.declared.values.ReadingRefusal.{ReadingRefusal}
 use Rattle.book.specs.declared.values.ReadingRefusal.TheVariants.{NoSuchRule, NoSuchState, NoSuchCue}
-use Rattle.book.specs.Held.{held_rules}
 use Rattle.book.specs.Content.{RuleAt}
 use Rattle.book.specs.Book.{book_content, book_meaning, part}
 use Rattle.book.specs.Value.{after_show, from_state}
 use Rattle.book.specs.Reading.{Read, ReadBehindShows, Weighed, WeighedBehindShows}
-use Rattle.book.proofs.Parts.{led_further, part_after, held_are}
+use Rattle.book.proofs.Parts.{led_further, part_after, rule_of}
 use Rattle.book.proofs.Readings.{after, reads_as, relevant_as}
 
 -- A rule holds of a show with a continuation behind it exactly when a show may close where the continuation leads from its state.
 pub state_tells : (r : Terms) (s v : Show) → from_state r (state_after r s) v ↔ after_show r s v
 state_tells r s v = rw (sym (led_further r s v)) (closes_where_it_holds r (s ++ v))
 
--- What is held is the terms of a rule, so shows lead it to states of its own.
-rule_of : (h : Held) (i : ℕ) (r : Terms) → slice_get (held_rules h) i ≡ Some r → (x : Rule) × (terms x ≡ r)
-rule_of h i r there = held (slice_get (take h.count h.rules) i) (sym (slice_get-map terms (take h.count h.rules) i) ∙ ap (λ rs. slice_get rs i) (sym (held_are h)) ∙ there)
-  where
-    held : (found : Option Rule) → option_map terms found ≡ Some r → (x : Rule) × (terms x ≡ r)
-    held (Some x) e = (x, ap (λ o. unwrap_or o r) e)
-    held None e = absurd (cc e)
-
+-- Shows lead a rule to states of its own.
 states_below : (r : Terms) (s : Show) → (x : Rule) × (terms x ≡ r) → state_after r s < states_of r
 states_below r s (x, e) = rw (sym e) ((rule_states x).within (word_of (terms x) s))
 

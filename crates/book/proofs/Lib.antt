@@ -1,5 +1,6 @@
 pub mod Places
 pub mod Parts
+pub mod Positions
 pub mod Gathered
 pub mod Coming
 pub mod Readings

@@ -1,12 +1,13 @@
 -- A book moves and closes part by part, so it allows a show exactly when every rule holds of it.
 -- Assumes nothing.
-use Rattle.std.proofs.Common.{true, false, if◌then◌else◌, nat_lt, ◌≡◌, ℕ, zero, suc, ◌+◌, ◌*◌, ◌/◌, ◌%◌, ◌^◌, ◌<◌, ◌≤◌, Bool, IsTrue, List, [], ◌∷◌, ◌++◌, length, map, take, slice_get, Some, sym, ap, ◌∙◌, refl, arith}
+use Rattle.std.proofs.Common.{true, false, if◌then◌else◌, nat_lt, ◌≡◌, ℕ, zero, suc, ◌+◌, ◌*◌, ◌/◌, ◌%◌, ◌^◌, ◌<◌, ◌≤◌, Bool, IsTrue, List, [], ◌∷◌, ◌++◌, length, map, take, slice_get, option_map, Option, Some, None, sym, ap, ◌∙◌, refl, arith}
 use Rattle.std.proofs.Math.Nat.{div-div-eq-div-mul, pow-succ', zero-div}
 use Rattle.std.specs.Option.{unwrap_or}
 use Rattle.std.proofs.lemmas.Bool.{and_parts, lt-ltb}
 use Rattle.std.proofs.lemmas.Bool.Decides.{nat_tests}
 use Rattle.std.proofs.lemmas.Nat.{pow-add}
 use Rattle.std.proofs.lemmas.List.{take-map, map-append}
+use Rattle.std.proofs.lemmas.Option.{slice_get-map}
 use Rattle.std.proofs.lemmas.List.Sums.{fold-append}
 use Rattle.machine.specs.Show.{Show, Cued}
 use Rattle.machine.specs.Meaning.{Meaning, leads_to}
@@ -28,10 +29,10 @@ sixteen zero = refl
 sixteen (suc i) = let e : 4 * suc i ≡ 4 + 4 * i = omega arith in ap (λ k. 2 ^ k) e ∙ pow-add 2 4 (4 * i) ∙ ap (λ k. 16 * k) (sixteen i) ∙ sym (pow-succ' 16 i)
 
 -- Part 0 is the lowest digit; a part further up is one of the digits above it.
-part_up : (p i : ℕ) → part p (suc i) ≡ part (p / 16) i
+pub part_up : (p i : ℕ) → part p (suc i) ≡ part (p / 16) i
 part_up p i = ap (λ k. p / k % 16) (pow-succ' 16 i) ∙ ap (λ k. k % 16) (sym (div-div-eq-div-mul p 16 (16 ^ i)))
 
-part_low : (p : ℕ) → part p 0 ≡ p % 16
+pub part_low : (p : ℕ) → part p 0 ≡ p % 16
 part_low p = omega arith
 
 -- Of a digit and a number above it, part 0 is the digit, and the others are the parts of the number.
@@ -81,6 +82,14 @@ each_then_all (x ∷ rs) p h =
 -- The rules held are the terms of rules.
 pub held_are : (h : Held) → held_rules h ≡ map terms (take h.count h.rules)
 held_are h = take-map terms h.count h.rules
+
+-- What is held is the terms of a rule.
+pub rule_of : (h : Held) (i : ℕ) (r : Terms) → slice_get (held_rules h) i ≡ Some r → (x : Rule) × (terms x ≡ r)
+rule_of h i r there = held (slice_get (take h.count h.rules) i) (sym (slice_get-map terms (take h.count h.rules) i) ∙ ap (λ rs. slice_get rs i) (sym (held_are h)) ∙ there)
+  where
+    held : (found : Option Rule) → option_map terms found ≡ Some r → (x : Rule) × (terms x ≡ r)
+    held (Some x) e = (x, ap (λ o. unwrap_or o r) e)
+    held None e = absurd (cc e)
 
 module _ (cues : ℕ) (h : Held) where
   abbrev content : Content

@@ -2,8 +2,9 @@
 -- Assumes nothing.
 use Rattle.std.specs.Prelude.{◌≡◌, ℕ, ◌+◌, ◌*◌, ◌/◌, ◌%◌, ◌^◌, ◌<◌, ◌≤◌, Bool, true, ◌&&◌, ◌↔◌, List, [], ◌∷◌, length, nat_lt, if◌then◌else◌, IsTrue}
 use Rattle.machine.specs.Show.{Show, Cued}
-use Rattle.machine.specs.Meaning.{Meaning, Allows}
-use Rattle.rules.specs.Rule.{Terms, letter_of, step_of, closes_at, HoldsOf}
+use Rattle.machine.specs.Meaning.{Meaning, leads_to, Allows}
+use Rattle.rules.specs.Rule.{Terms, letter_of, step_of, closes_at, word_of, HoldsOf}
+use Rattle.rules.specs.States.{Undivided}
 use Rattle.book.specs.declared.books.Book.{Book}
 use Rattle.book.specs.Content.{Content, RuleAt}
 use Rattle.book.specs.Held.{held_rules}
@@ -60,3 +61,11 @@ AllHold c s = (i : ℕ) (r : Terms) → RuleAt c i r → HoldsOf r s
 -- The theorem of books: a show of the book's cues is allowed exactly when every rule's template holds of it.
 abbrev pub AllowsWhatHolds : Meaning → Content → Type 0
 AllowsWhatHolds m c = (s : Show) → Cued c.cues s → Allows m s ↔ AllHold c s
+
+-- No rule tells two shows apart, whatever follows.
+abbrev pub NotToldApart : Content → Show → Show → Type 0
+NotToldApart c s t = (i : ℕ) (r : Terms) → RuleAt c i r → Undivided r.template r.n (word_of r s) (word_of r t)
+
+-- The theorem of positions: two shows of the book's cues lead to one position exactly when no rule tells them apart, whatever follows.
+abbrev pub OnePosition : Meaning → Content → Type 0
+OnePosition m c = (s t : Show) → Cued c.cues s → Cued c.cues t → (leads_to m s ≡ leads_to m t) ↔ NotToldApart c s t

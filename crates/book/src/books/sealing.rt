@@ -2,7 +2,7 @@
 ghost use Rattle.std.specs.Prelude.{◌≡◌, length};
 ghost use Rattle.book.specs.Content.{Found};
 ghost use Rattle.book.specs.Draft.{draft_content};
-ghost use Rattle.book.specs.Book.{book_content, book_meaning, MovesByParts, AllowsWhatHolds};
+ghost use Rattle.book.specs.Book.{book_content, book_meaning, MovesByParts, AllowsWhatHolds, OnePosition};
 
 use super::Book;
 use crate::drafts::Draft;
@@ -12,11 +12,13 @@ impl Draft {
     /// Seals the draft: it becomes a book of the same cues and rules.
     ///
     /// Here is the book's whole promise (`allows`): it allows a show of its cues exactly when every rule's template holds of the
-    /// show.
+    /// show. And it has no more positions than its rules need (`positions`): two shows lead to one exactly when no rule tells them
+    /// apart, whatever follows.
     pub fn seal(self) -> Book
         ensures content { book_content result ≡ draft_content self }
         ensures parts { MovesByParts (book_meaning result) (book_content result) }
         ensures allows { AllowsWhatHolds (book_meaning result) (book_content result) }
+        ensures positions { OnePosition (book_meaning result) (book_content result) }
     {
         let Draft { cues, held, .. } = self;
         Book { cues, held }
@@ -32,10 +34,12 @@ impl Book {
         Draft { cues, held }
     }
 
-    /// How many rules the book holds. The book's whole promise (`allows`) stands here again, for whoever has not seen it sealed.
+    /// How many rules the book holds. The book's whole promise (`allows`, `positions`) stands here again, for whoever has not seen it
+    /// sealed.
     pub fn rules(&self) -> u8
         ensures count { result ≡ length (book_content self.now).rules }
         ensures allows { AllowsWhatHolds (book_meaning self.now) (book_content self.now) }
+        ensures positions { OnePosition (book_meaning self.now) (book_content self.now) }
     {
         self.held.count
     }

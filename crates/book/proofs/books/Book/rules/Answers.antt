@@ -1,5 +1,9 @@
 use Rattle.book.proofs.Parts.{allows_what_holds}
+use Rattle.book.proofs.Positions.{one_position}
 use Rattle.book.proofs.books.Book.rules.Goals as goal
 
 pub returns-clause-allows : goal.returns-clause-allows
 returns-clause-allows c = allows_what_holds _ _
+
+pub returns-clause-positions : goal.returns-clause-positions
+returns-clause-positions c = one_position _ _
