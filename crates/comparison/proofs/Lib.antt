@@ -1,3 +1,6 @@
 pub mod Decisions
 pub mod Machines
 pub mod Readable
+pub mod Divided
+pub mod Findings
+pub mod Reported

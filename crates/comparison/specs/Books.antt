@@ -3,12 +3,11 @@
 use Rattle.std.specs.Prelude.{◌≡◌, ℕ, ◌⊎◌, ◌↔◌, List, length}
 use Rattle.machine.specs.Show.{Show, Cued}
 use Rattle.machine.specs.Meaning.{Meaning}
-use Rattle.rules.specs.Rule.{Terms, HoldsOf, word_of}
-use Rattle.rules.specs.States.{Undivided}
+use Rattle.rules.specs.Rule.{Terms, HoldsOf}
 use Rattle.book.specs.Content.{Content, RuleAt}
-use Rattle.book.specs.Book.{content_meaning, AllHold}
+use Rattle.book.specs.Book.{content_meaning, AllHold, NotToldApart}
 use Rattle.search.specs.Rank.{jointly}
-use Rattle.sheet.specs.Sheet.{Comparison, WellFormed}
+use Rattle.sheet.specs.Sheet.{Comparison}
 
 -- The two books of a sheet, and what they mean as machines.
 abbrev pub left_book : Comparison → Content
@@ -45,12 +44,8 @@ OnlyRight s t = OnlyAllows (right_book s) (left_book s) t
 abbrev pub DividesBooks : Comparison → Show → Type 0
 DividesBooks s t = OnlyLeft s t ⊎ OnlyRight s t
 
--- No rule of a book tells two shows apart, whatever follows.
-abbrev pub NotToldApart : Content → Show → Show → Type 0
-NotToldApart b t u = (i : ℕ) (r : Terms) → RuleAt b i r → Undivided r.template r.n (word_of r t) (word_of r u)
-
 -- The theorem of joint positions: two shows of a sheet lead to one of them exactly when no rule of either book tells the two apart,
 -- whatever follows.
-unfoldable pub JointPositions : Type 0
-JointPositions = (s : Comparison) → WellFormed s → (t u : Show) → IsShow s t → IsShow s u
+abbrev pub JointPositions : Comparison → Type 0
+JointPositions s = (t u : Show) → IsShow s t → IsShow s u
     → (jointly (left_machine s) (right_machine s) t ≡ jointly (left_machine s) (right_machine s) u) ↔ (NotToldApart (left_book s) t u × NotToldApart (right_book s) t u)

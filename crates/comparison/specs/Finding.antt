@@ -73,7 +73,3 @@ module _ (s : Comparison) where
   FindingOf (Left t) = FirstThatDivides (OnlyLeft s) t
   FindingOf (Right t) = FirstThatDivides (OnlyRight s) t
   FindingOf Full = AreTooMany
-
--- The theorem of findings: of no sheet two findings are so.
-unfoldable pub OneFinding : Type 0
-OneFinding = (s : Comparison) (f g : Finding) → FindingOf s f → FindingOf s g → f ≡ g

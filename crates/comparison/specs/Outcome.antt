@@ -10,7 +10,7 @@ use Rattle.comparison.specs.declared.outcomes.Finding.{Finding}
 use Rattle.comparison.specs.declared.outcomes.Outcome.{Outcome}
 use Rattle.comparison.specs.declared.outcomes.Outcome.TheVariants.{Refused, Compared}
 use Rattle.comparison.specs.declared.reports.Report.{Report}
-use Rattle.comparison.specs.Books.{left_machine, right_machine}
+use Rattle.comparison.specs.Books.{left_machine, right_machine, JointPositions}
 use Rattle.comparison.specs.Deciding.{TallyOf}
 use Rattle.comparison.specs.Finding.{FindingOf}
 
@@ -18,12 +18,13 @@ use Rattle.comparison.specs.Finding.{FindingOf}
 abbrev pub Says : Text → Comparison → Type 0
 Says sheet s = WellFormed s × (written s ≡ sheet)
 
--- A report of what a sheet says: it has the sheet's names; what it finds is just what is so of the sheet; and its tally is that of
--- the two books.
+-- A report of what a sheet says: it has the sheet's names, what it finds is just what is so of the sheet, and its tally is that of
+-- the two books, whose joint positions are told apart by the sheet's rules.
 pub record ReportOf (s : Comparison) (r : Report) : Type 0 where
   pub names : names_of r.names ≡ s.names
   pub finding : (f : Finding) → (r.finding ≡ f) ↔ FindingOf s f
   pub tally : TallyOf (left_machine s) (right_machine s) r.tally
+  pub positions : JointPositions s
 
 -- The outcome is this fault; the outcome is a report of this.
 abbrev pub Refuses : Outcome → Fault → Type 0

@@ -2,8 +2,6 @@
 ghost use Rattle.std.specs.Prelude.{◌≡◌};
 ghost use Rattle.sheet.specs.Reading.{Holds};
 ghost use Rattle.sheet.specs.Sheet.{WellFormed};
-ghost use Rattle.comparison.specs.Books.{JointPositions};
-ghost use Rattle.comparison.specs.Finding.{OneFinding};
 ghost use Rattle.comparison.specs.Outcome.{ReportOf, RefusedByItsFault, ReportedAsWritten, OutcomeOf};
 ghost use Rattle.comparison.specs.Printing.{outcome_text, PrintedFor};
 
@@ -18,8 +16,6 @@ pub fn compared(sheet: &[u8]) -> Outcome<'_>
     ensures refused { RefusedByItsFault result sheet.now }
     ensures reported { ReportedAsWritten result sheet.now }
     ensures printed { PrintedFor sheet.now (outcome_text result) }
-    ensures one { OneFinding }
-    ensures positions { JointPositions }
 {
     match Sheet::read(sheet) {
         Ok(sheet) => Outcome::Compared(report(sheet)),
@@ -29,7 +25,7 @@ pub fn compared(sheet: &[u8]) -> Outcome<'_>
 
 // Compares the two books of a sheet that was read.
 fn report(sheet: Sheet<'_>) -> Report<'_>
-    requires { (s : _) × Holds sheet.entry s × WellFormed s }
+    requires { (s : _) × Holds sheet s × WellFormed s }
     ensures { (s : _) → Holds sheet.entry s → WellFormed s → ReportOf s result }
 {
     let Sheet { names, left, right } = sheet;
