@@ -1,0 +1,2 @@
+pub mod Buffered
+pub mod Whole
