@@ -1,9 +1,8 @@
 -- As much of a sheet as is read tells what is to be printed for the whole.
 -- Assumes nothing.
-use Rattle.std.proofs.Common.{◌≡◌, ℕ, ◌<◌, ◌≤◌, inl, inr, IfSome, Some, None, Option, length, take, ap, length-take-le, take_all, arith}
+use Rattle.std.proofs.Common.{◌≡◌, ℕ, ◌<◌, inl, inr, IfSome, Some, None, Option, length, take, ap, length-take-le, take_all, arith}
 use Rattle.std.proofs.lemmas.Bool.{cases_lt}
 use Rattle.std.specs.Io.KnownBytes.{Appends}
-use Rattle.sheet.specs.Sheet.{most_bytes}
 use Rattle.sheet.specs.Text.{Text}
 use Rattle.sheet.proofs.Short.{short}
 use Rattle.comparison.specs.Printing.{PrintedFor, of_fault, of_books}

@@ -1,10 +1,8 @@
 -- What comparing the machines of a sheet's books finds is what is so of the sheet, and only one finding is.
 -- Assumes nothing.
-use Rattle.std.proofs.Common.{◌≡◌, ℕ, ◌<◌, inl, inr, ◌↔◌, sym, ap, refl, arith}
+use Rattle.std.proofs.Common.{◌≡◌, inl, inr, ◌↔◌, ap, refl}
 use Rattle.machine.specs.Show.{Show}
-use Rattle.machine.specs.Meaning.{Allows}
 use Rattle.search.specs.declared.states.Verdict.TheVariants as verdict
-use Rattle.search.specs.Rank.{MoreThan, NoneOfTheFirst as NoneOfMachines}
 use Rattle.search.specs.Truth.{FirstDifference, TooMany}
 use Rattle.search.proofs.OneTruth.{neither_later}
 use Rattle.bench.specs.Cells.{limit}
@@ -12,8 +10,8 @@ use Rattle.book.specs.Book.{AllowsWhatHolds}
 use Rattle.sheet.specs.Sheet.{Comparison}
 use Rattle.comparison.specs.declared.outcomes.Finding.{Finding}
 use Rattle.comparison.specs.declared.outcomes.Finding.TheVariants.{Equal, Left, Right, Full}
-use Rattle.comparison.specs.Books.{left_book, right_book, left_machine, right_machine, IsShow, OnlyLeft, OnlyRight, DividesBooks}
-use Rattle.comparison.specs.Finding.{MachinesFinding, IsFirst, NoneOfTheFirst, AreTooMany, FirstThatDivides, FindingOf}
+use Rattle.comparison.specs.Books.{left_book, right_book, left_machine, right_machine, OnlyLeft, OnlyRight, DividesBooks}
+use Rattle.comparison.specs.Finding.{MachinesFinding, IsFirst, AreTooMany, FirstThatDivides, FindingOf}
 use Rattle.comparison.proofs.Divided.{one_side, only_left, only_right, divides_books, divides_machines}
 
 module _ (s : Comparison) where

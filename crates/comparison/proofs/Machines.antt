@@ -1,6 +1,6 @@
 -- What comparing two machines finds is just what the verdict and the show told say.
 -- Assumes nothing.
-use Rattle.std.proofs.Common.{◌≡◌, ℕ, ◌<◌, ◌≤◌, ◌⊎◌, List, ◌++◌, length, take, drop, Ok, Result, inl, inr, sym, ap, ◌∙◌, arith}
+use Rattle.std.proofs.Common.{◌≡◌, ℕ, ◌≤◌, ◌⊎◌, List, ◌++◌, length, take, drop, Ok, Result, inl, inr, sym, ap, ◌∙◌, arith}
 use Rattle.std.specs.Result.{result_unwrap_or}
 use Rattle.std.proofs.Math.Seq.{take-append_seam}
 use Rattle.machine.specs.Show.{Show}
@@ -18,7 +18,7 @@ use Rattle.comparison.specs.declared.deciding.Decision.{Decision}
 use Rattle.comparison.specs.declared.outcomes.Finding.{Finding}
 use Rattle.comparison.specs.declared.outcomes.Finding.TheVariants.{Equal, Left, Right, Full}
 use Rattle.comparison.specs.Deciding.{Decided}
-use Rattle.comparison.specs.Finding.{MachinesFinding, IsFirst, IfShown, verdict_of}
+use Rattle.comparison.specs.Finding.{MachinesFinding, IfShown, verdict_of}
 
 module _ {M : Type 0} (meaning : M → Meaning) where
   -- A watch without cues means the machine below.

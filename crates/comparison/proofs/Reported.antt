@@ -11,7 +11,7 @@ use Rattle.book.specs.Book.{content_meaning, AllowsWhatHolds, OnePosition}
 use Rattle.sheet.specs.declared.sheets.Sheet.{Sheet}
 use Rattle.sheet.specs.Names.{names_of}
 use Rattle.sheet.specs.Reading.{Holds}
-use Rattle.sheet.specs.Sheet.{Comparison, WellFormed}
+use Rattle.sheet.specs.Sheet.{Comparison}
 use Rattle.sheet.specs.Text.{Text, InName, NameForm}
 use Rattle.comparison.specs.declared.reports.Report.{Report}
 use Rattle.comparison.specs.Books.{left_book, right_book, left_machine, right_machine, JointPositions}
@@ -37,9 +37,9 @@ same_joint p q e f = ap (λ x. record { left = x; right = p.right }) e ∙ ap (�
 -- So they are told apart by the rules of either book.
 joint_positions : (s : Comparison) → OnePosition (left_machine s) (left_book s) → OnePosition (right_machine s) (right_book s) → JointPositions s
 joint_positions s lefts rights t u here also = (
-    λ e. ((lefts t u here also).0 (ap (λ j. j.left) e), (rights t u here also).0 (ap (λ j. j.right) e)),
-    λ same. same_joint _ _ ((lefts t u here also).1 same.0) ((rights t u here also).1 same.1),
-  )
+  λ e. ((lefts t u here also).0 (ap (λ j. j.left) e), (rights t u here also).0 (ap (λ j. j.right) e)),
+  λ same. same_joint _ _ ((lefts t u here also).1 same.0) ((rights t u here also).1 same.1),
+)
 
 -- What is known of two books by their contents, and reported of them.
 pub record Known (c d : Content) (rep : Report) : Type 0 where

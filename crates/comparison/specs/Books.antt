@@ -1,6 +1,6 @@
 -- The two books of a sheet, the shows that divide them, and their joint positions, in the words of the sheet's own rules.
 -- Assumes nothing.
-use Rattle.std.specs.Prelude.{◌≡◌, ℕ, ◌⊎◌, ◌↔◌, List, length}
+use Rattle.std.specs.Prelude.{◌≡◌, ℕ, ◌⊎◌, ◌↔◌, length}
 use Rattle.machine.specs.Show.{Show, Cued}
 use Rattle.machine.specs.Meaning.{Meaning}
 use Rattle.rules.specs.Rule.{Terms, HoldsOf}

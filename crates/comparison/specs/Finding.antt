@@ -1,6 +1,6 @@
 -- What comparing the two books of a sheet finds, said of its shows and its rules.
 -- Assumes nothing.
-use Rattle.std.specs.Prelude.{◌≡◌, ℕ, ◌<◌, ⊤}
+use Rattle.std.specs.Prelude.{ℕ, ◌<◌, ⊤}
 use Rattle.machine.specs.Show.{Show}
 use Rattle.machine.specs.Meaning.{Meaning}
 use Rattle.search.specs.declared.states.Verdict.{Verdict}

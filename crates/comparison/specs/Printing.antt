@@ -1,6 +1,6 @@
 -- What is printed of an outcome.
 -- Assumes nothing.
-use Rattle.std.specs.Prelude.{◌≡◌, ℕ, ◌⊎◌, List, [], ◌∷◌, ◌++◌, length, flat_map, codes, decimal, Option, Some, None}
+use Rattle.std.specs.Prelude.{◌≡◌, ℕ, List, [], ◌∷◌, ◌++◌, length, flat_map, codes, decimal, Option, Some, None}
 use Rattle.machine.specs.Show.{Show}
 use Rattle.sheet.specs.declared.faults.Fault.{Fault}
 use Rattle.sheet.specs.Fault.{FaultOf}
@@ -10,7 +10,7 @@ use Rattle.sheet.specs.Sheet.{Comparison}
 use Rattle.sheet.specs.Text.{Text, line_end}
 use Rattle.comparison.specs.declared.deciding.Tally.{Tally}
 use Rattle.comparison.specs.declared.outcomes.Finding.{Finding}
-use Rattle.comparison.specs.declared.outcomes.Finding.TheVariants.{Equal, Left, Right, Full}
+use Rattle.comparison.specs.declared.outcomes.Finding.TheVariants.{Left, Right}
 use Rattle.comparison.specs.declared.outcomes.Outcome.{Outcome}
 use Rattle.comparison.specs.declared.outcomes.Outcome.TheVariants.{Refused, Compared}
 use Rattle.comparison.specs.Books.{left_machine, right_machine}

@@ -8,8 +8,7 @@ use crate::outcomes::{Finding, FoundShow, Outcome};
 use crate::reports::Report;
 use bench::Verdict;
 use machine::Numbered;
-use std::fmt;
-use std::str;
+use std::{fmt, str};
 
 impl Finding {
     /// The verdict of the bench.

@@ -1,2 +1,1 @@
-pub mod Comparing
 pub mod Cues

@@ -1,4 +1,4 @@
-use Rattle.std.proofs.Common.{◌≡◌, refl, ap}
+use Rattle.std.proofs.Common.{refl, ap}
 use Rattle.comparison.specs.Printing.{of_fault, of_books, report_text}
 use Rattle.comparison.proofs.sheets.compared.Goals as goal
 

@@ -1,6 +1,6 @@
-use Rattle.std.proofs.Common.{rules, refl, ◌≡◌}
+use Rattle.std.proofs.Common.{rules, refl}
 use Rattle.std.specs.Str.{IsUtf8}
-use Rattle.sheet.specs.Names.{names_of, name_of}
+use Rattle.sheet.specs.Names.{names_of}
 use Rattle.comparison.proofs.Readable.{name_is, readable}
 use Rattle.comparison.proofs.reports.Report.name.Goals as goal
 
