@@ -28,8 +28,8 @@ IfShown f P = ⊤
 
 -- What comparing two machines finds.
 module _ (l r : Meaning) where
-  -- The show is the first that divides the machines, and the machine of this verdict allows it; and one of the joint positions that a
-  -- bench can record divides.
+  -- The show is the first that divides the machines, and the machine of this verdict allows it; and it is found, since the joint
+  -- positions before it are not too many.
   abbrev pub IsFirst : Verdict → Show → Type 0
   IsFirst v t = FirstDifference l r v t × (TooMany l r limit → ⊥)
 
@@ -64,7 +64,7 @@ module _ (s : Comparison) where
     pub show : IsShow s t
     pub only : Only t
     pub first : (u : Show) → IsShow s u → DividesBooks s u → NoLater t u
-    -- one of the joint positions that a bench can record divides the books
+    -- and it is found, since the joint positions before it are not too many
     pub within : AreTooMany → ⊥
 
   -- What is found.

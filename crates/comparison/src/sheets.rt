@@ -10,7 +10,14 @@ use crate::outcomes::Outcome;
 use crate::reports::Report;
 use sheet::Sheet;
 
-/// Compares the two books of a sheet.
+/// Compares the two books of a sheet, and answers what comes of it.
+///
+/// Here is the whole promise. A sheet is refused exactly with its fault, the first in reading order (`refused`). Any other says
+/// something, and that is reported (`reported`): "equal" exactly when no show of any length divides the two books and they have at
+/// most as many joint positions as a bench can record; "full" exactly when they have more and none of the first so many in rank
+/// divides; and else the first show that divides them, by the side that allows it. A show divides the books when the rules of the one
+/// all hold of it and some rule of the other does not. There is no third outcome (`outcome`), and what is printed tells it
+/// (`printed`).
 pub fn compared(sheet: &[u8]) -> Outcome<'_>
     ensures outcome { OutcomeOf result sheet.now }
     ensures refused { RefusedByItsFault result sheet.now }
