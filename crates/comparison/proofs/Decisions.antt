@@ -1,9 +1,13 @@
 -- What a client knows of calls on a bench opened new: all the grants that a verdict can need, and then the verdict, the
 -- tally and the show. Only the contracts of the calls are used.
 -- Assumes nothing.
-use Rattle.std.proofs.Common.{◌≡◌, ℕ, List, arith}
+use Rattle.std.proofs.Common.{◌≡◌, ℕ, List, le_refl}
+use Rattle.machine.specs.Show.{Show}
 use Rattle.machine.specs.Meaning.{Meaning}
-use Rattle.search.specs.Search.{after}
+use Rattle.search.specs.declared.states.Verdict.{Verdict}
+use Rattle.search.specs.Search.{recorded, after}
+use Rattle.search.specs.Rank.{FirstInRank}
+use Rattle.search.specs.Units.{show_after, TallyTells}
 use Rattle.search.specs.Calls.{Advance, Tally, AskVerdict, WriteShow, Worked, Tallied, Told, Written, Strategy}
 use Rattle.bench.specs.declared.benches.Bench.{Bench}
 use Rattle.bench.specs.Cells.{limit}
@@ -14,6 +18,11 @@ use Rattle.comparison.specs.Deciding.{Decided, NotCompared}
 -- The only call before the others.
 abbrev grant_all : Strategy
 grant_all answers = Advance limit
+
+-- What numbers tell is told of the same numbers.
+told_alike : (l r : Meaning) (shows : ℕ → Show) (v v' : Verdict) (n n' m m' : ℕ) → v ≡ v' → n ≡ n' → m ≡ m'
+    → FirstInRank l r m' shows × TallyTells l r limit shows n' m' v' → FirstInRank l r m shows × TallyTells l r limit shows n m v
+told_alike l r shows v v' n n' m m' e f g told = rw (e, f, g) told
 
 module _ {L R : Type 0} (lefts : L → Meaning) (rights : R → Meaning) (b next : Bench L R) (d : Decision L R) (n : ℕ) (before now' : List ℕ)
     (first : Called lefts rights (Advance limit) (Worked n) b next) (told : Called lefts rights AskVerdict (Told d.verdict) next next)
@@ -31,9 +40,12 @@ module _ {L R : Type 0} (lefts : L → Meaning) (rights : R → Meaning) (b next
       let (answer, when) = here.truly AskVerdict (Told d.verdict) next told in
       let (counts, ranked) = here.truly Tally (Tallied d.tally.worked d.tally.recorded) next tallied in
       let true_one : d.verdict ≡ (after l r limit limit).verdict = cc in
+      let worked : d.tally.worked ≡ (after l r limit limit).worked = cc in
+      let recorded' : d.tally.recorded ≡ recorded (after l r limit limit) = cc in
+      let (first, tells) = told_alike l r (show_after l r limit limit) d.verdict _ d.tally.worked _ d.tally.recorded _ true_one worked recorded' (ranked.first, ranked.tells) in
       record {
-        verdict = rw true_one (when.enough (omega arith));
-        tally = record { worked = cc; recorded = cc; ranked = ranked };
+        verdict = rw true_one (when.enough (le_refl limit));
+        tally = record { worked = worked; recorded = recorded'; shows = show_after l r limit limit; first = first; tells = tells };
         show = rw true_one (here.truly (WriteShow before) (Written d.length now') next shown);
       }
 

@@ -1,6 +1,6 @@
 -- What comparing two machines finds is just what the verdict and the show told say.
 -- Assumes nothing.
-use Rattle.std.proofs.Common.{◌≡◌, ℕ, ◌≤◌, ◌⊎◌, List, ◌++◌, length, take, drop, Ok, Result, inl, inr, sym, ap, ◌∙◌, arith}
+use Rattle.std.proofs.Common.{◌≡◌, ℕ, ◌≤◌, ◌⊎◌, List, ◌++◌, length, take, drop, Ok, Err, IfOk, Result, inl, inr, sym, ap, subst, arith}
 use Rattle.std.specs.Result.{result_unwrap_or}
 use Rattle.std.proofs.Math.Seq.{take-append_seam}
 use Rattle.machine.specs.Show.{Show}
@@ -14,25 +14,23 @@ use Rattle.search.specs.Calls.{Written}
 use Rattle.search.specs.Runs.{Shown, ShowTold}
 use Rattle.search.specs.Truth.{TrueVerdict, FirstDifference}
 use Rattle.bench.specs.Cells.{limit}
-use Rattle.comparison.specs.declared.deciding.Decision.{Decision}
 use Rattle.comparison.specs.declared.outcomes.Finding.{Finding}
 use Rattle.comparison.specs.declared.outcomes.Finding.TheVariants.{Equal, Left, Right, Full}
-use Rattle.comparison.specs.Deciding.{Decided}
 use Rattle.comparison.specs.Finding.{MachinesFinding, IfShown, verdict_of}
 
-module _ {M : Type 0} (meaning : M → Meaning) where
-  -- A watch without cues means the machine below.
-  uncued : (w : Watch M) (x : M) → standing w ≡ begun meaning x → watch_meaning meaning w ≡ meaning x
-  uncued w x e = ap (λ st. started_at (meaning st.machine) st.position) e
+-- A watch without cues means the machine below.
+uncued : {M : Type 0} (meaning : M → Meaning) (w : Watch M) (x : M) → standing w ≡ begun meaning x → watch_meaning meaning w ≡ meaning x
+uncued meaning w x e = ap (λ st. started_at (meaning st.machine) st.position) e
 
-  -- So deciding two such watches decides the machines below.
-  pub decided_below : (v w : Watch M) (x y : M) (d : Decision (Watch M) (Watch M)) (before now' : List ℕ)
-      → standing v ≡ begun meaning x → standing w ≡ begun meaning y → (meaning x).steps.cues ≡ (meaning y).steps.cues
-      → ((watch_meaning meaning v).steps.cues ≡ (watch_meaning meaning w).steps.cues → Decided (watch_meaning meaning v) (watch_meaning meaning w) d before now')
-      → Decided (meaning x) (meaning y) d before now'
-  decided_below v w x y d before now' e f same truth =
-      let count : (u : Watch M) (z : M) → standing u ≡ begun meaning z → (watch_meaning meaning u).steps.cues ≡ (meaning z).steps.cues = λ u z g. ap (λ m. m.steps.cues) (uncued u z g) in
-      rw (uncued v x e, uncued w y f) at (truth (count v x e ∙ same ∙ sym (count w y f)))
+-- So what two such watches come to is what the machines below come to.
+module _ {L R : Type 0} (lefts : L → Meaning) (rights : R → Meaning) (v : Watch L) (w : Watch R) (x : L) (y : R) (e : standing v ≡ begun lefts x) (f : standing w ≡ begun rights y) where
+  pub of_watches : (P : Meaning → Meaning → Type 0) → P (watch_meaning lefts v) (watch_meaning rights w) → P (lefts x) (rights y)
+  of_watches P p = subst (λ l. P l (rights y)) (uncued lefts v x e) (subst (P (watch_meaning lefts v)) (uncued rights w y f) p)
+
+-- The length told fits the buffer, and so does 0 where none is told.
+pub length_fits : (told : Result ℕ ShowRefusal) (room : ℕ) → IfOk told (λ n. n ≤ room) → result_unwrap_or told 0 ≤ room
+length_fits (Ok n) room fits = fits
+length_fits (Err e) room fits = omega arith
 
 -- A show that is told and fits stands at the front of the buffer.
 in_front : (s : Show) (told : Result ℕ ShowRefusal) (before now' : List ℕ) → length s ≤ length before → Shown s before (Written told now') → take (result_unwrap_or told 0) now' ≡ s

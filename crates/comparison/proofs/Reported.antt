@@ -16,7 +16,7 @@ use Rattle.sheet.specs.Text.{Text, InName, NameForm}
 use Rattle.comparison.specs.declared.reports.Report.{Report}
 use Rattle.comparison.specs.Books.{left_book, right_book, left_machine, right_machine, JointPositions}
 use Rattle.comparison.specs.Deciding.{TallyOf}
-use Rattle.comparison.specs.Finding.{MachinesFinding}
+use Rattle.comparison.specs.Finding.{MachinesFinding, verdict_of}
 use Rattle.comparison.specs.Outcome.{ReportOf}
 use Rattle.comparison.proofs.Findings.{just_found}
 
@@ -48,7 +48,7 @@ pub record Known (c d : Content) (rep : Report) : Type 0 where
   pub also_allows : AllowsWhatHolds (content_meaning d) d
   pub also_positions : OnePosition (content_meaning d) d
   pub finding : MachinesFinding (content_meaning c) (content_meaning d) rep.finding
-  pub tally : TallyOf (content_meaning c) (content_meaning d) rep.tally
+  pub tally : TallyOf (content_meaning c) (content_meaning d) (verdict_of rep.finding) rep.tally
 
 -- Where these are the sheet's books, it is the report of the sheet.
 report_of_books : (s : Comparison) (rep : Report) → names_of rep.names ≡ s.names → Known (left_book s) (right_book s) rep → ReportOf s rep

@@ -1,30 +1,35 @@
 -- What deciding two machines on a bench promises.
 -- Assumes nothing.
 use Rattle.std.specs.Prelude.{◌≡◌, List, ℕ, ◌++◌, Err, codes, decimal}
+use Rattle.machine.specs.Show.{Show}
 use Rattle.machine.specs.Meaning.{Meaning}
 use Rattle.search.specs.declared.states.Verdict.{Verdict}
 use Rattle.search.specs.declared.states.Verdict.TheVariants.{Unlike}
 use Rattle.search.specs.declared.states.ShowRefusal.TheVariants.{NoShow}
+use Rattle.search.specs.Rank.{FirstInRank}
 use Rattle.search.specs.Search.{recorded, after}
 use Rattle.search.specs.Calls.{Written, verdict_word}
 use Rattle.search.specs.Truth.{TrueVerdict}
-use Rattle.search.specs.Units.{RecordedInRank}
+use Rattle.search.specs.Units.{TallyTells}
 use Rattle.search.specs.Runs.{ShowTold}
 use Rattle.bench.specs.Cells.{limit}
 use Rattle.comparison.specs.declared.deciding.Decision.{Decision}
 use Rattle.comparison.specs.declared.deciding.Tally.{Tally}
 
--- A tally is that of the search of two machines, and the joint positions that it counts as recorded are the first in rank.
-pub record TallyOf (l r : Meaning) (t : Tally) : Type 0 where
+-- A tally is that of the search of two machines with this verdict; and what its numbers tell, said of the first shows of the joint
+-- positions that it counts as recorded, which are the first in rank.
+pub record TallyOf (l r : Meaning) (v : Verdict) (t : Tally) : Type 0 where
   pub worked : t.worked ≡ (after l r limit limit).worked
   pub recorded : t.recorded ≡ recorded (after l r limit limit)
-  pub ranked : RecordedInRank l r limit limit
+  pub shows : ℕ → Show
+  pub first : FirstInRank l r t.recorded shows
+  pub tells : TallyTells l r limit shows t.worked t.recorded v
 
 -- Of machines with equally many cues: the verdict is the true one, the tally is that of the search, and the show found is the first
 -- that divides the machines. The buffer held the first bytes before, and holds the second now.
 pub record Decided {L R : Type 0} (l r : Meaning) (d : Decision L R) (before now' : List ℕ) : Type 0 where
   pub verdict : TrueVerdict l r limit d.verdict
-  pub tally : TallyOf l r d.tally
+  pub tally : TallyOf l r d.verdict d.tally
   pub show : ShowTold l r limit d.verdict before (Written d.length now')
 
 -- Of machines with different cue counts: nothing is compared, and the buffer is as it was.

@@ -12,7 +12,7 @@ use Rattle.comparison.specs.declared.outcomes.Outcome.TheVariants.{Refused, Comp
 use Rattle.comparison.specs.declared.reports.Report.{Report}
 use Rattle.comparison.specs.Books.{left_machine, right_machine, JointPositions}
 use Rattle.comparison.specs.Deciding.{TallyOf}
-use Rattle.comparison.specs.Finding.{FindingOf}
+use Rattle.comparison.specs.Finding.{FindingOf, verdict_of}
 
 -- A sheet says this: it is well formed, and the sheet is how it is written.
 abbrev pub Says : Text → Comparison → Type 0
@@ -23,7 +23,7 @@ Says sheet s = WellFormed s × (written s ≡ sheet)
 pub record ReportOf (s : Comparison) (r : Report) : Type 0 where
   pub names : names_of r.names ≡ s.names
   pub finding : (f : Finding) → (r.finding ≡ f) ↔ FindingOf s f
-  pub tally : TallyOf (left_machine s) (right_machine s) r.tally
+  pub tally : TallyOf (left_machine s) (right_machine s) (verdict_of r.finding) r.tally
   pub positions : JointPositions s
 
 -- The outcome is this fault; the outcome is a report of this.

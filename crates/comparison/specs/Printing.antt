@@ -53,5 +53,5 @@ outcome_text (Compared r) = report_text (names_of r.names) r.finding r.tally
 -- What is printed for a sheet: the line of its fault; or the lines of what is found of the books that it says, with their tally.
 pub data PrintedFor (sheet text : Text) : Type 0 where
   of_fault : (f : Fault) → FaultOf sheet f → text ≡ fault_text f → PrintedFor sheet text
-  of_books : (s : Comparison) → Says sheet s → (f : Finding) → FindingOf s f → (t : Tally) → TallyOf (left_machine s) (right_machine s) t
+  of_books : (s : Comparison) → Says sheet s → (f : Finding) → FindingOf s f → (t : Tally) → TallyOf (left_machine s) (right_machine s) (verdict_of f) t
       → text ≡ report_text s.names f t → PrintedFor sheet text

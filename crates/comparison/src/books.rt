@@ -5,31 +5,24 @@ ghost use Rattle.book.specs.Book.{book_meaning};
 ghost use Rattle.comparison.specs.Deciding.{TallyOf};
 ghost use Rattle.comparison.specs.Finding.{MachinesFinding, verdict_of, IfShown};
 
-use crate::deciding::{Decision, Tally, decide};
+use crate::deciding::{Decision, Tally, decide_watched};
 use crate::outcomes::{Finding, FoundShow, ROOM};
 use bench::Verdict;
 use book::Book;
-use machine::Watch;
 
-// Compares two books of equally many cues, each under a begun watch with no cue taken.
+// Compares two books of equally many cues.
 pub(crate) fn books_compared(left: Book, right: Book) -> (Finding, Tally)
     requires { (book_meaning left).steps.cues ≡ (book_meaning right).steps.cues }
     ensures finding { MachinesFinding (book_meaning left) (book_meaning right) result.0 }
-    ensures tally { TallyOf (book_meaning left) (book_meaning right) result.1 }
+    ensures tally { TallyOf (book_meaning left) (book_meaning right) (verdict_of result.0) result.1 }
 {
-    let (left, left_slip) = Watch::begin(left);
-    let (right, right_slip) = Watch::begin(right);
     let mut cues = [0; ROOM];
-    let decision = decide(left, right, &mut cues);
     let Decision {
-        left,
-        right,
         verdict,
         tally,
         length,
-    } = decision;
-    left.close(left_slip);
-    right.close(right_slip);
+        ..
+    } = decide_watched(left, right, &mut cues);
     let show = FoundShow::new(cues, length.unwrap_or(0));
     (finding(verdict, show), tally)
 }

@@ -3,7 +3,7 @@ ghost use Rattle.std.specs.Prelude.{◌≡◌, ◌≢◌, ◌≤◌, IfOk, Some,
 ghost use Rattle.comparison.specs.Deciding.{Decided, NotCompared, tally_text, told};
 
 use bench::{Bench, LIMIT, ShowRefusal, Verdict};
-use machine::Machine;
+use machine::{Closed, Machine, Watch};
 use std::fmt;
 
 /// The tally (the search's counters) of a bench that has decided.
@@ -71,6 +71,40 @@ pub fn decide<L: Machine, R: Machine>(left: L, right: R, buffer: &mut [u8]) -> D
         right,
         verdict,
         tally: Tally { worked, recorded },
+        length,
+    }
+}
+
+// The same with each machine under a begun watch with no cue taken. A watch without cues means the machine below, so nothing that is
+// decided changes.
+pub(crate) fn decide_watched<L: Machine, R: Machine>(
+    left: L,
+    right: R,
+    buffer: &mut [u8],
+) -> Decision<L, R>
+    ensures machines { (result.left ≡ left) × (result.right ≡ right) }
+    ensures truth { (L.Machine.meaning left).steps.cues ≡ (R.Machine.meaning right).steps.cues →
+        Decided (L.Machine.meaning left) (R.Machine.meaning right) result buffer.old buffer.new }
+    ensures unlike { ((L.Machine.meaning left).steps.cues ≢ (R.Machine.meaning right).steps.cues) →
+        NotCompared result buffer.old buffer.new }
+    ensures fits { IfOk result.length (λ n. n ≤ length buffer.old) }
+{
+    let (left, left_slip) = Watch::begin(left);
+    let (right, right_slip) = Watch::begin(right);
+    let Decision {
+        left,
+        right,
+        verdict,
+        tally,
+        length,
+    } = decide(left, right, buffer);
+    let Closed { machine: left, .. } = left.close(left_slip);
+    let Closed { machine: right, .. } = right.close(right_slip);
+    Decision {
+        left,
+        right,
+        verdict,
+        tally,
         length,
     }
 }
