@@ -2,5 +2,5 @@ pub mod Decisions
 pub mod Machines
 pub mod Readable
 pub mod Divided
-pub mod Findings
+pub mod JustFound
 pub mod Reported

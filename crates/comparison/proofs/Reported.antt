@@ -18,7 +18,7 @@ use Rattle.comparison.specs.Books.{left_book, right_book, left_machine, right_ma
 use Rattle.comparison.specs.Deciding.{TallyOf}
 use Rattle.comparison.specs.Finding.{MachinesFinding, verdict_of}
 use Rattle.comparison.specs.Outcome.{ReportOf}
-use Rattle.comparison.proofs.Findings.{just_found}
+use Rattle.comparison.proofs.JustFound.{just_found}
 
 -- Names in form are plain text.
 plain_byte : (b : ℕ) → InName b → b < 128

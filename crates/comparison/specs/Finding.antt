@@ -1,6 +1,6 @@
 -- What comparing the two books of a sheet finds, said of its shows and its rules.
 -- Assumes nothing.
-use Rattle.std.specs.Prelude.{ℕ, ◌<◌, ⊤}
+use Rattle.std.specs.Prelude.{ℕ, ◌<◌, Option, Some, None, IfSome}
 use Rattle.machine.specs.Show.{Show}
 use Rattle.machine.specs.Meaning.{Meaning}
 use Rattle.search.specs.declared.states.Verdict.{Verdict}
@@ -20,11 +20,14 @@ verdict_of (Left t) = verdict.Left
 verdict_of (Right t) = verdict.Right
 verdict_of Full = verdict.Full
 
--- This is so of the show found, where there is one.
+-- The show found, where there is one; and that something is so of it.
+abbrev pub shown : Finding → Option Show
+shown (Left t) = Some t
+shown (Right t) = Some t
+shown f = None
+
 abbrev pub IfShown : Finding → (Show → Type 0) → Type 0
-IfShown (Left t) P = P t
-IfShown (Right t) P = P t
-IfShown f P = ⊤
+IfShown f P = IfSome (shown f) P
 
 -- What comparing two machines finds.
 module _ (l r : Meaning) where

@@ -10,12 +10,11 @@ use Rattle.sheet.specs.Sheet.{Comparison}
 use Rattle.sheet.specs.Text.{Text, line_end}
 use Rattle.comparison.specs.declared.deciding.Tally.{Tally}
 use Rattle.comparison.specs.declared.outcomes.Finding.{Finding}
-use Rattle.comparison.specs.declared.outcomes.Finding.TheVariants.{Left, Right}
 use Rattle.comparison.specs.declared.outcomes.Outcome.{Outcome}
 use Rattle.comparison.specs.declared.outcomes.Outcome.TheVariants.{Refused, Compared}
 use Rattle.comparison.specs.Books.{left_machine, right_machine}
 use Rattle.comparison.specs.Deciding.{TallyOf, told}
-use Rattle.comparison.specs.Finding.{FindingOf, verdict_of}
+use Rattle.comparison.specs.Finding.{FindingOf, verdict_of, shown}
 use Rattle.comparison.specs.Outcome.{Says}
 
 -- A line ends with its byte.
@@ -29,12 +28,7 @@ named names c = codes " " ++ name_of names c
 abbrev pub show_text : List Text → Show → Text
 show_text names t = decimal (length t) ++ flat_map (named names) t
 
--- The show found, where there is one, and its line.
-abbrev pub shown : Finding → Option Show
-shown (Left t) = Some t
-shown (Right t) = Some t
-shown f = None
-
+-- The line of the show found, where there is one.
 abbrev pub line_of : List Text → Option Show → Text
 line_of names (Some t) = line (show_text names t)
 line_of names None = []

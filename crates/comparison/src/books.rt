@@ -1,13 +1,11 @@
 //! Comparing two books.
-ghost use Rattle.std.specs.Prelude.{◌≡◌, ◌≢◌};
-ghost use Rattle.search.specs.declared.states.Verdict.TheVariants.{Open, Unlike};
+ghost use Rattle.std.specs.Prelude.{◌≡◌};
 ghost use Rattle.book.specs.Book.{book_meaning};
 ghost use Rattle.comparison.specs.Deciding.{TallyOf};
-ghost use Rattle.comparison.specs.Finding.{MachinesFinding, verdict_of, IfShown};
+ghost use Rattle.comparison.specs.Finding.{MachinesFinding, verdict_of};
 
 use crate::deciding::{Decision, Tally, decide_watched};
 use crate::outcomes::{Finding, FoundShow, ROOM};
-use bench::Verdict;
 use book::Book;
 
 // Compares two books of equally many cues.
@@ -24,20 +22,5 @@ pub(crate) fn books_compared(left: Book, right: Book) -> (Finding, Tally)
         ..
     } = decide_watched(left, right, &mut cues);
     let show = FoundShow::new(cues, length.unwrap_or(0));
-    (finding(verdict, show), tally)
-}
-
-// What is found, by the verdict and the show.
-fn finding(verdict: Verdict, show: FoundShow) -> Finding
-    requires { (verdict ≢ Open) × (verdict ≢ Unlike) }
-    ensures verdict { verdict_of result ≡ verdict }
-    ensures show { IfShown result (λ t. t ≡ show) }
-{
-    match verdict {
-        Verdict::Equal => Finding::Equal,
-        Verdict::Left => Finding::Left(show),
-        Verdict::Right => Finding::Right(show),
-        Verdict::Full => Finding::Full,
-        Verdict::Open | Verdict::Unlike => unreachable!(),
-    }
+    (Finding::new(verdict, show), tally)
 }

@@ -5,6 +5,7 @@
 
 mod books;
 mod deciding;
+mod findings;
 mod outcomes;
 mod printing;
 mod reports;

@@ -2,14 +2,14 @@
 ghost use Rattle.std.specs.Prelude.{◌≡◌};
 
 use crate::reports::Report;
-use bench::{LIMIT, Verdict};
+use bench::LIMIT;
 use sheet::Fault;
 use std::marker::Model;
 
 // Room for the longest show that a bench finds.
 pub(crate) const ROOM: usize = LIMIT as usize;
 
-/// The show found: the first, in show order, that divides two books.
+/// The show found (the shortest distinguishing trace): the first, in show order, that divides two books.
 #[derive(Drop)]
 pub struct FoundShow {
     cues: [u8; ROOM],
@@ -47,7 +47,7 @@ impl FoundShow {
     }
 }
 
-/// What comparing two books finds.
+/// What comparing two books finds (the result of the product-automaton search).
 #[derive(Drop)]
 pub enum Finding {
     /// No show divides the books.
@@ -60,7 +60,7 @@ pub enum Finding {
     Full,
 }
 
-/// The outcome of a sheet.
+/// The outcome of a sheet (the result of the whole comparison).
 #[derive(Drop)]
 pub enum Outcome<'a> {
     /// The sheet is turned down.

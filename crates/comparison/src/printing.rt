@@ -1,38 +1,12 @@
 //! How outcomes are printed.
-ghost use Rattle.std.specs.Prelude.{◌≡◌, Some, None, MatchOption};
+ghost use Rattle.std.specs.Prelude.{◌≡◌, Some};
 ghost use Rattle.sheet.specs.Names.{names_of, name_of};
-ghost use Rattle.comparison.specs.Finding.{verdict_of};
-ghost use Rattle.comparison.specs.Printing.{report_text, outcome_text, shown, show_text};
+ghost use Rattle.comparison.specs.Printing.{report_text, outcome_text, show_text};
 
-use crate::outcomes::{Finding, FoundShow, Outcome};
+use crate::outcomes::Outcome;
 use crate::reports::Report;
-use bench::Verdict;
 use machine::Numbered;
 use std::{fmt, str};
-
-impl Finding {
-    /// The verdict of the bench.
-    pub fn verdict(&self) -> Verdict
-        ensures { result ≡ verdict_of self.now }
-    {
-        match self {
-            Finding::Equal => Verdict::Equal,
-            Finding::Left(_) => Verdict::Left,
-            Finding::Right(_) => Verdict::Right,
-            Finding::Full => Verdict::Full,
-        }
-    }
-
-    /// The show found, where there is one.
-    pub fn show(&self) -> Option<&[u8]>
-        ensures { MatchOption result (shown self.now ≡ None) (λ t. shown self.now ≡ Some t.now) }
-    {
-        match self {
-            Finding::Left(show) | Finding::Right(show) => Some(show.cues()),
-            Finding::Equal | Finding::Full => None,
-        }
-    }
-}
 
 impl Report<'_> {
     /// The name of a cue; of what is no cue, the empty text.
