@@ -62,10 +62,10 @@ AllHold c s = (i : ℕ) (r : Terms) → RuleAt c i r → HoldsOf r s
 abbrev pub AllowsWhatHolds : Meaning → Content → Type 0
 AllowsWhatHolds m c = (s : Show) → Cued c.cues s → Allows m s ↔ AllHold c s
 
--- No rule tells two shows apart, whatever follows.
+-- No rule tells two shows apart, whatever letters follow, be there a cue for them or not.
 abbrev pub NotToldApart : Content → Show → Show → Type 0
 NotToldApart c s t = (i : ℕ) (r : Terms) → RuleAt c i r → Undivided r.template r.n (word_of r s) (word_of r t)
 
--- The theorem of positions: two shows of the book's cues lead to one position exactly when no rule tells them apart, whatever follows.
+-- The theorem of positions: two shows of the book's cues lead to one position exactly when no rule tells them apart.
 abbrev pub OnePosition : Meaning → Content → Type 0
 OnePosition m c = (s t : Show) → Cued c.cues s → Cued c.cues t → (leads_to m s ≡ leads_to m t) ↔ NotToldApart c s t

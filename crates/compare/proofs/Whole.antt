@@ -1,16 +1,17 @@
 -- As much of a sheet as is read tells what is to be printed for the whole.
 -- Assumes nothing.
-use Rattle.std.proofs.Common.{◌≡◌, ℕ, ◌<◌, inl, inr, IfSome, Some, None, Option, length, take, ap, length-take-le, take_all, arith}
+use Rattle.std.proofs.Common.{◌≡◌, ℕ, suc, ◌<◌, inl, inr, IfSome, Some, None, Option, length, take, ap, length-take-le, take_all, arith}
 use Rattle.std.proofs.lemmas.Bool.{cases_lt}
-use Rattle.std.specs.Io.KnownBytes.{Appends}
+use Rattle.std.specs.Io.KnownBytes.{Appends, Consumes}
+use Rattle.sheet.specs.Sheet.{most_bytes}
 use Rattle.sheet.specs.Text.{Text}
 use Rattle.sheet.proofs.Short.{short}
 use Rattle.comparison.specs.Printing.{PrintedFor, of_fault, of_books}
-use Rattle.compare.specs.Answering.{Answers}
+use Rattle.compare.specs.Answering.{Answers, ReadsEnough}
 
 -- One byte more than a sheet may have.
 abbrev pub enough : ℕ
-enough = 16385
+enough = suc most_bytes
 
 -- Where more stands there, what was read is too long already, and so is all of it.
 too_long : (sheet text : Text) → enough < length sheet → PrintedFor (take enough sheet) text → PrintedFor sheet text
@@ -25,3 +26,8 @@ whole sheet text printed = elim (cases_lt enough (length sheet)) [ inl more ↦ 
 pub answered : (there before after : Option Text) (read text : Text) → IfSome there (λ sheet. read ≡ take enough sheet) → PrintedFor read text → Appends before after text → Answers there before after
 answered None before after read text front printed appends = tt
 answered (Some sheet) before after read text front printed appends = (text, whole sheet text (rw front at printed), appends)
+
+-- And no more of it is read.
+pub read_enough : (there left : Option Text) (read : Text) → IfSome there (λ sheet. read ≡ take enough sheet) → Consumes there left read → ReadsEnough there left
+read_enough None left read front consumed = tt
+read_enough (Some sheet) left read front consumed = rw front at consumed

@@ -2,9 +2,10 @@
 
 #![tactic(auto)]
 
-ghost use Rattle.std.specs.Prelude.{◌≡◌, ◌≤◌, IfOk, OnOk, IfSome, length, take};
+ghost use Rattle.std.specs.Prelude.{◌≡◌, ◌≢◌, ◌≤◌, IfErr, IfOk, OnOk, IfSome, length, take};
+ghost use Rattle.std.specs.IoError.{error_kind};
 ghost use Rattle.std.specs.Io.KnownBytes.{Consumes};
-ghost use Rattle.compare.specs.Answering.{Answers};
+ghost use Rattle.compare.specs.Answering.{Answers, ReadsEnough};
 
 use anyhow::Context;
 use comparison::compared;
@@ -20,6 +21,7 @@ fn fill<R: Read>(reader: &mut R, buffer: &mut [u8]) -> io::Result<usize>
     ensures fits { IfOk result (λ n. n ≤ length buffer.old) }
     ensures bytes { IfOk result (λ n. IfSome (R.remaining reader.old) (λ all. take n buffer.new ≡ take (length buffer.old) all)) }
     ensures taken { IfOk result (λ n. Consumes (R.remaining reader.old) (R.remaining reader.new) (take n buffer.new)) }
+    ensures retried { IfErr result (λ e. error_kind e ≢ ErrorKind.Interrupted) }
 {
     let mut filled = 0;
     for _ in 0..u64::MAX {
@@ -35,7 +37,8 @@ fn fill<R: Read>(reader: &mut R, buffer: &mut [u8]) -> io::Result<usize>
 
 // Answers the sheet that there is to read: writes what is to be printed for it, and nothing else.
 fn answer<R: Read, W: Write>(reader: &mut R, writer: &mut W) -> anyhow::Result<()>
-    ensures { OnOk result (Answers (R.remaining reader.old) (W.contents writer.old) (W.contents writer.new)) }
+    ensures reads { OnOk result (ReadsEnough (R.remaining reader.old) (R.remaining reader.new)) }
+    ensures answers { OnOk result (Answers (R.remaining reader.old) (W.contents writer.old) (W.contents writer.new)) }
 {
     let mut buffer = [0; ENOUGH];
     let count = fill(reader, &mut buffer).context("the sheet cannot be read")?;

@@ -24,7 +24,7 @@ module _ (s : Comparison) where
   not_both t u p q = one_side (left_book s) (right_book s) u (rw (one_first (OnlyLeft s) (OnlyRight s) t u inl inr p q) at p.only) q.only
 
   -- So no two findings are so.
-  pub one_finding : (f g : Finding) → FindingOf s f → FindingOf s g → f ≡ g
+  one_finding : (f g : Finding) → FindingOf s f → FindingOf s g → f ≡ g
   one_finding Equal Equal p q = refl
   one_finding Equal (Left t) p q = absurd (p.0 t q.show (inl q.only))
   one_finding Equal (Right t) p q = absurd (p.0 t q.show (inr q.only))
@@ -59,7 +59,7 @@ module _ (s : Comparison) where
       within = λ many. within (machines_too_many many);
     }
 
-    pub finding_of : (f : Finding) → MachinesFinding (left_machine s) (right_machine s) f → FindingOf s f
+    finding_of : (f : Finding) → MachinesFinding (left_machine s) (right_machine s) f → FindingOf s f
     finding_of Equal (none, most) = (λ t here d. none t here (divides_machines s lefts rights t here d), most)
     finding_of (Left t) first = first_of (OnlyLeft s) t verdict.Left (only first.0) first
       where

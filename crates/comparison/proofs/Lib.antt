@@ -4,3 +4,4 @@ pub mod Readable
 pub mod Divided
 pub mod JustFound
 pub mod Reported
+pub mod OneText

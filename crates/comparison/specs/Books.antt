@@ -45,7 +45,7 @@ abbrev pub DividesBooks : Comparison → Show → Type 0
 DividesBooks s t = OnlyLeft s t ⊎ OnlyRight s t
 
 -- The theorem of joint positions: two shows of a sheet lead to one of them exactly when no rule of either book tells the two apart,
--- whatever follows.
+-- whatever letters follow, be there a cue for them or not.
 abbrev pub JointPositions : Comparison → Type 0
 JointPositions s = (t u : Show) → IsShow s t → IsShow s u
     → (jointly (left_machine s) (right_machine s) t ≡ jointly (left_machine s) (right_machine s) u) ↔ (NotToldApart (left_book s) t u × NotToldApart (right_book s) t u)

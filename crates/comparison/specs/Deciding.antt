@@ -44,5 +44,5 @@ pub record NotCompared {L R : Type 0} (d : Decision L R) (before now' : List ℕ
 abbrev pub tally_text : Tally → List ℕ
 tally_text t = decimal t.worked ++ codes " " ++ decimal t.recorded
 
-abbrev pub told : Verdict → Tally → List ℕ
-told v t = verdict_word v ++ codes " " ++ tally_text t
+abbrev pub decision_text : Verdict → Tally → List ℕ
+decision_text v t = verdict_word v ++ codes " " ++ tally_text t

@@ -31,8 +31,8 @@ IfShown f P = IfSome (shown f) P
 
 -- What comparing two machines finds.
 module _ (l r : Meaning) where
-  -- The show is the first that divides the machines, and the machine of this verdict allows it; and it is found, since the joint
-  -- positions before it are not too many.
+  -- The show is the first that divides the machines, and the machine of this verdict allows it; and it is not so that there are too
+  -- many joint positions and none of the first divides.
   abbrev pub IsFirst : Verdict → Show → Type 0
   IsFirst v t = FirstDifference l r v t × (TooMany l r limit → ⊥)
 
@@ -45,29 +45,29 @@ module _ (l r : Meaning) where
 -- What comparing the two books of a sheet finds.
 module _ (s : Comparison) where
   -- No show of any length divides the books.
-  abbrev pub NoneDivides : Type 0
-  NoneDivides = (t : Show) → IsShow s t → DividesBooks s t → ⊥
+  abbrev pub NoShowDivides : Type 0
+  NoShowDivides = (t : Show) → IsShow s t → DividesBooks s t → ⊥
 
   -- There are k joint positions that are the first in rank, and none of their first shows divides the books.
-  pub record NoneOfTheFirst (k : ℕ) : Type 0 where
+  pub record NoneOfTheFirstDivides (k : ℕ) : Type 0 where
     pub shows : ℕ → Show
     pub first : FirstInRank (left_machine s) (right_machine s) k shows
     pub none : (i : ℕ) → i < k → DividesBooks s (shows i) → ⊥
 
   -- No show divides the books, and they have at most as many joint positions as a bench can record.
   abbrev pub AreEqual : Type 0
-  AreEqual = NoneDivides × AtMost (left_machine s) (right_machine s) limit
+  AreEqual = NoShowDivides × AtMost (left_machine s) (right_machine s) limit
 
   -- They have more, and none of the first so many in rank divides them.
   abbrev pub AreTooMany : Type 0
-  AreTooMany = MoreThan (left_machine s) (right_machine s) limit × NoneOfTheFirst limit
+  AreTooMany = MoreThan (left_machine s) (right_machine s) limit × NoneOfTheFirstDivides limit
 
   -- A show of the sheet, of which this is so, and every other that divides the books comes later.
   pub record FirstThatDivides (Only : Show → Type 0) (t : Show) : Type 0 where
     pub show : IsShow s t
     pub only : Only t
     pub first : (u : Show) → IsShow s u → DividesBooks s u → NoLater t u
-    -- and it is found, since the joint positions before it are not too many
+    -- and it is not so that there are too many joint positions and none of the first divides
     pub within : AreTooMany → ⊥
 
   -- What is found.

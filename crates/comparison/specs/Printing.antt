@@ -1,6 +1,6 @@
 -- What is printed of an outcome.
 -- Assumes nothing.
-use Rattle.std.specs.Prelude.{◌≡◌, ℕ, List, [], ◌∷◌, ◌++◌, length, flat_map, codes, decimal, Option, Some, None}
+use Rattle.std.specs.Prelude.{◌≡◌, ◌↔◌, ℕ, List, [], ◌∷◌, ◌++◌, length, flat_map, codes, decimal, Option, Some, None}
 use Rattle.machine.specs.Show.{Show}
 use Rattle.sheet.specs.declared.faults.Fault.{Fault}
 use Rattle.sheet.specs.Fault.{FaultOf}
@@ -13,7 +13,7 @@ use Rattle.comparison.specs.declared.outcomes.Finding.{Finding}
 use Rattle.comparison.specs.declared.outcomes.Outcome.{Outcome}
 use Rattle.comparison.specs.declared.outcomes.Outcome.TheVariants.{Refused, Compared}
 use Rattle.comparison.specs.Books.{left_machine, right_machine}
-use Rattle.comparison.specs.Deciding.{TallyOf, told}
+use Rattle.comparison.specs.Deciding.{TallyOf, decision_text}
 use Rattle.comparison.specs.Finding.{FindingOf, verdict_of, shown}
 use Rattle.comparison.specs.Outcome.{Says}
 
@@ -22,20 +22,20 @@ abbrev pub line : Text → Text
 line x = x ++ line_end ∷ []
 
 -- A show: its length, and the names of its cues in order, each behind a space.
-abbrev pub named : List Text → ℕ → Text
-named names c = codes " " ++ name_of names c
+abbrev pub spaced_name : List Text → ℕ → Text
+spaced_name names c = codes " " ++ name_of names c
 
 abbrev pub show_text : List Text → Show → Text
-show_text names t = decimal (length t) ++ flat_map (named names) t
+show_text names t = decimal (length t) ++ flat_map (spaced_name names) t
 
 -- The line of the show found, where there is one.
-abbrev pub line_of : List Text → Option Show → Text
-line_of names (Some t) = line (show_text names t)
-line_of names None = []
+abbrev pub show_line : List Text → Option Show → Text
+show_line names (Some t) = line (show_text names t)
+show_line names None = []
 
 -- The lines of a report, and the line of a fault.
 abbrev pub report_text : List Text → Finding → Tally → Text
-report_text names f t = line (told (verdict_of f) t) ++ line_of names (shown f)
+report_text names f t = line (decision_text (verdict_of f) t) ++ show_line names (shown f)
 
 abbrev pub fault_text : Fault → Text
 fault_text f = line (codes "refused " ++ decimal (refusal_number f.refusal) ++ codes " " ++ decimal f.line ++ codes " " ++ layer_word (layer_of f.refusal))
@@ -49,3 +49,7 @@ pub data PrintedFor (sheet text : Text) : Type 0 where
   of_fault : (f : Fault) → FaultOf sheet f → text ≡ fault_text f → PrintedFor sheet text
   of_books : (s : Comparison) → Says sheet s → (f : Finding) → FindingOf s f → (t : Tally) → TallyOf (left_machine s) (right_machine s) (verdict_of f) t
       → text ≡ report_text s.names f t → PrintedFor sheet text
+
+-- This text is to be printed for a sheet, and no other.
+abbrev pub JustPrinted : Text → Text → Type 0
+JustPrinted sheet text = (x : Text) → PrintedFor sheet x ↔ (x ≡ text)

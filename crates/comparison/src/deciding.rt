@@ -1,6 +1,6 @@
 //! Deciding two machines on a bench.
 ghost use Rattle.std.specs.Prelude.{◌≡◌, ◌≢◌, ◌≤◌, IfOk, Some, length};
-ghost use Rattle.comparison.specs.Deciding.{Decided, NotCompared, tally_text, told};
+ghost use Rattle.comparison.specs.Deciding.{Decided, NotCompared, tally_text, decision_text};
 
 use bench::{Bench, LIMIT, ShowRefusal, Verdict};
 use machine::{Closed, Machine, Watch};
@@ -35,13 +35,13 @@ pub struct Decision<L, R> {
     pub verdict: Verdict,
     /// How many joint positions it took.
     pub tally: Tally,
-    /// How many cues the show found has, or why there is none.
+    /// How many cues the show found has, or why none was written.
     pub length: Result<usize, ShowRefusal>,
 }
 
 // The verdict and the tally.
 impl<L, R> fmt::Display for Decision<L, R> {
-    ghost output = { λ decision. Some (told decision.verdict decision.tally) };
+    ghost output = { λ decision. Some (decision_text decision.verdict decision.tally) };
 
     fn fmt<W: fmt::Write>(&self, f: &mut fmt::Formatter<W>) -> fmt::Result {
         let verdict = self.verdict;

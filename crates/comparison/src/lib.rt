@@ -1,5 +1,5 @@
-//! Comparisons: a bench decides two machines, and a sheet is read, its two books are decided, and what came of it is printed. Nothing
-//! here allocates.
+//! Comparisons: a bench decides two machines; a sheet is read, its two books are compared, and what comes of it is told as text.
+//! Nothing here allocates.
 
 #![tactic(auto)]
 

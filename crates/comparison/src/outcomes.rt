@@ -9,7 +9,7 @@ use std::marker::Model;
 // Room for the longest show that a bench finds.
 pub(crate) const ROOM: usize = LIMIT as usize;
 
-/// The show found (the shortest distinguishing trace): the first, in show order, that divides two books.
+/// A show that was found (a distinguishing trace). What `compared` finds is the first, in show order, that divides the books.
 #[derive(Drop)]
 pub struct FoundShow {
     cues: [u8; ROOM],
@@ -20,20 +20,22 @@ pub struct FoundShow {
 impl Model for FoundShow {
     ghost use Rattle.std.specs.Prelude.{◌≤◌, take};
     ghost use Rattle.machine.specs.Show.{Show};
+    ghost use Rattle.bench.specs.Cells.{limit};
 
     ghost Value = { Show };
 
     ghost view = { λ found. take found.length found.cues };
 
-    ghost invariant = { λ found. found.length ≤ 2048 };
+    ghost invariant = { λ found. found.length ≤ limit };
 }
 
 impl FoundShow {
     ghost use Rattle.std.specs.Prelude.{◌≤◌, take};
+    ghost use Rattle.bench.specs.Cells.{limit};
 
     // The show of so many cues at the front of a buffer.
     pub(crate) fn new(cues: [u8; ROOM], length: usize) -> FoundShow
-        requires { length ≤ 2048 }
+        requires { length ≤ limit }
         ensures { result ≡ take length cues }
     {
         FoundShow { cues, length }
@@ -50,11 +52,11 @@ impl FoundShow {
 /// What comparing two books finds (the result of the product-automaton search).
 #[derive(Drop)]
 pub enum Finding {
-    /// No show divides the books.
+    /// No show divides the books, and a bench can record all their joint positions.
     Equal,
-    /// The left book allows this show, and the right one does not. It is the first that divides them.
+    /// The left book allows this show, and the right one does not.
     Left(FoundShow),
-    /// The right book allows this show, and the left one does not. It is the first that divides them.
+    /// The right book allows this show, and the left one does not.
     Right(FoundShow),
     /// There are more joint positions than a bench can record, and none of those recorded divides the books.
     Full,

@@ -3,7 +3,7 @@ ghost use Rattle.std.specs.Prelude.{◌≡◌};
 ghost use Rattle.sheet.specs.Reading.{Holds};
 ghost use Rattle.sheet.specs.Sheet.{WellFormed};
 ghost use Rattle.comparison.specs.Outcome.{ReportOf, RefusedByItsFault, ReportedAsWritten, OutcomeOf};
-ghost use Rattle.comparison.specs.Printing.{outcome_text, PrintedFor};
+ghost use Rattle.comparison.specs.Printing.{outcome_text, JustPrinted};
 
 use crate::books::books_compared;
 use crate::outcomes::Outcome;
@@ -16,13 +16,13 @@ use sheet::Sheet;
 /// something, and that is reported (`reported`): "equal" exactly when no show of any length divides the two books and they have at
 /// most as many joint positions as a bench can record; "full" exactly when they have more and none of the first so many in rank
 /// divides; and else the first show that divides them, by the side that allows it. A show divides the books when the rules of the one
-/// all hold of it and some rule of the other does not. There is no third outcome (`outcome`), and what is printed tells it
-/// (`printed`).
+/// all hold of it and some rule of the other does not. There is no third outcome (`outcome`), and just its text is to be
+/// printed for the sheet (`printed`).
 pub fn compared(sheet: &[u8]) -> Outcome<'_>
     ensures outcome { OutcomeOf result sheet.now }
     ensures refused { RefusedByItsFault result sheet.now }
     ensures reported { ReportedAsWritten result sheet.now }
-    ensures printed { PrintedFor sheet.now (outcome_text result) }
+    ensures printed { JustPrinted sheet.now (outcome_text result) }
 {
     match Sheet::read(sheet) {
         Ok(sheet) => Outcome::Compared(report(sheet)),

@@ -12,8 +12,8 @@ impl Draft {
     /// Seals the draft: it becomes a book of the same cues and rules.
     ///
     /// Here is the book's whole promise (`allows`): it allows a show of its cues exactly when every rule's template holds of the
-    /// show. And it has no more positions than its rules need (`positions`): two shows lead to one exactly when no rule tells them
-    /// apart, whatever follows.
+    /// show. And it has no more positions than each of its rules needs by itself (`positions`): two shows lead to one exactly when no
+    /// rule tells them apart, whatever letters follow.
     pub fn seal(self) -> Book
         ensures content { book_content result ≡ draft_content self }
         ensures parts { MovesByParts (book_meaning result) (book_content result) }
