@@ -13,6 +13,9 @@ use sheet::MOST_BYTES;
 use std::io;
 use std::io::{ErrorKind, Read, Write};
 
+#[cfg(test)]
+mod tests;
+
 // As many bytes as it takes to know that a sheet is too long.
 const ENOUGH: usize = MOST_BYTES + 1;
 
@@ -25,6 +28,9 @@ fn fill<R: Read>(reader: &mut R, buffer: &mut [u8]) -> io::Result<usize>
 {
     let mut filled = 0;
     for _ in 0..u64::MAX {
+        if filled >= buffer.len() {
+            return Ok(filled);
+        }
         match reader.read(&mut buffer[filled..]) {
             Ok(0) => return Ok(filled),
             Ok(count) => filled += count,
