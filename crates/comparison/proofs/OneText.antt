@@ -1,6 +1,6 @@
 -- The text of a sheet's outcome is what is to be printed for the sheet, and no other is.
 -- Assumes nothing.
-use Rattle.std.proofs.Common.{◌≡◌, ◌↔◌, refl, sym, ap, ◌∙◌}
+use Rattle.std.proofs.Common.{◌≡◌, refl, sym, ap, ◌∙◌}
 use Rattle.machine.specs.Meaning.{Meaning}
 use Rattle.search.specs.declared.states.Verdict.{Verdict}
 use Rattle.sheet.specs.Names.{names_of}
@@ -14,7 +14,7 @@ use Rattle.comparison.specs.declared.reports.Report.{Report}
 use Rattle.comparison.specs.Books.{left_machine, right_machine}
 use Rattle.comparison.specs.Deciding.{TallyOf}
 use Rattle.comparison.specs.Finding.{FindingOf, verdict_of}
-use Rattle.comparison.specs.Outcome.{Says, ReportOf, RefusedByItsFault, ReportedAsWritten, OutcomeOf}
+use Rattle.comparison.specs.Outcome.{ReportOf, RefusedByItsFault, ReportedAsWritten, OutcomeOf}
 use Rattle.comparison.specs.Printing.{fault_text, report_text, outcome_text, PrintedFor, of_fault, of_books, JustPrinted}
 
 -- Two machines have one tally.
