@@ -19,7 +19,8 @@ too_long sheet text more (of_fault f (inl (long, refusal, line)) e) = of_fault f
 too_long sheet text more (of_fault f (inr (fits, fault)) e) = absurd (omega (arith, length-take-le enough sheet (omega arith)))
 too_long sheet text more (of_books s says f found t tally e) = absurd (omega (arith, length-take-le enough sheet (omega arith), short s says.0, ap length says.1))
 
-pub whole : (sheet text : Text) → PrintedFor (take enough sheet) text → PrintedFor sheet text
+-- What is to be printed for as much as is read is to be printed for the whole.
+whole : (sheet text : Text) → PrintedFor (take enough sheet) text → PrintedFor sheet text
 whole sheet text printed = elim (cases_lt enough (length sheet)) [ inl more ↦ too_long sheet text more printed | inr all ↦ rw (take_all enough sheet all) at printed ]
 
 -- So the sheet that is there is answered.

@@ -27,9 +27,7 @@ hold_or_fail (x ∷ rs) t = elim (so_or_not (closes_at x (state_after x t)) (clo
     every holds all zero r e = rw (ap (λ o. unwrap_or o x) (sym e)) holds
     every holds all (suc i) r e = all i r e
 
-all_or_some : (b : Content) (t : Show) → AllHold b t ⊎ SomeFails b t
-all_or_some b t = hold_or_fail b.rules t
-
+-- Where some rule does not hold, not all do.
 some_not_all : (b : Content) (t : Show) → SomeFails b t → AllHold b t → ⊥
 some_not_all b t (i, r, there, fails) all = fails (all i r there)
 
@@ -41,7 +39,7 @@ one_side b c t only other = some_not_all c t only.1 other.0
 -- and some rule of the other does not.
 module _ (b c : Content) (t : Show) (allows : Allows (content_meaning b) t ↔ AllHold b t) (also : Allows (content_meaning c) t ↔ AllHold c t) where
   only_allows : Allows (content_meaning b) t → (Allows (content_meaning c) t → ⊥) → OnlyAllows b c t
-  only_allows yes' none = (allows.0 yes', elim (all_or_some c t) [ inl all ↦ absurd (none (also.1 all)) | inr some ↦ some ])
+  only_allows yes' none = (allows.0 yes', elim (hold_or_fail c.rules t) [ inl all ↦ absurd (none (also.1 all)) | inr some ↦ some ])
 
   allowed_only : OnlyAllows b c t → Allows (content_meaning b) t × (Allows (content_meaning c) t → ⊥)
   allowed_only (all, some) = (allows.1 all, λ yes'. some_not_all c t some (also.0 yes'))
