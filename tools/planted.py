@@ -1,0 +1,204 @@
+#!/usr/bin/env python3
+"""Plants the bugs of planted/CRATE.bugs, one at a time, in a copy of the repository, and says what refuses each.
+
+    tools/planted.py try COPY CRATE..    plants them in the copy COPY, which is made or brought up to date, and says of each
+                                         where it is refused; the last line counts those that did not end as their list says
+    tools/planted.py table               prints the tables of docs/PROMISES.md: every bug of the lists
+
+A list is blocks with a blank line between; a line that begins with # is not read. A block's lines:
+
+    bug: a_name_that_says_what_is_turned
+    file: src/lib.rt         and then pairs of old: and new:, as in a must-fail edit; more files may follow
+    tried: tests             where tests judge it and no proof: `rt try --test` in this crate, or `tried: tests CRATE`
+    tried: run               where a run of the program judges it: what it writes of its stdin is not its stdout
+    falls: WHERE             the function whose contract refuses it, as try says it, or what test or run
+    stays: REASON            in place of falls, where nothing refuses it: why that is right
+"""
+import os
+import re
+import shutil
+import subprocess
+import sys
+
+HERE = os.path.dirname(os.path.dirname(os.path.abspath(__file__)))
+REFUSED = re.compile(r"must-fail \w+/(\w+)\.edit: (refused, as it must be|NOT REFUSED|BAD EDIT|NOT TRIED)(.*)")
+PLACE = re.compile(r"(?:\./)?((?:src|specs|proofs)/\S+?):(\d+):\d+: *(.*)")
+
+
+class Bug:
+    """One block of a list."""
+
+    def __init__(self, block):
+        self.name, self.edits, self.tried, self.falls, self.stays = "", [], "", "", ""
+        for line in block:
+            key, _, text = line.partition(": ")
+            if key in ("file", "old", "new") or line in ("new:", "old:"):
+                self.edits.append(line)
+            elif key == "bug":
+                self.name = text
+            elif key in ("tried", "falls", "stays"):
+                setattr(self, key, text)
+            else:
+                sys.exit(f"no line of a list: {line}")
+        if not re.fullmatch(r"[a-z][a-z0-9_]*", self.name):
+            sys.exit(f"no name of a bug: {self.name!r}")
+
+    def changed(self, folder):
+        """Returns the texts of the crate's files with this bug, by their paths."""
+        texts, at, old = {}, None, None
+        for line in self.edits:
+            key, _, text = line.partition(":")
+            text = text[1:]
+            if key == "file":
+                at = text
+                texts.setdefault(at, open(f"{folder}/{at}", encoding="utf-8").read())
+            elif key == "old":
+                old = text
+            elif texts[at].count(old) != 1:
+                sys.exit(f"{self.name}: in {at} the old text stands {texts[at].count(old)} times: {old}")
+            else:
+                texts[at] = texts[at].replace(old, text)
+        return texts
+
+
+def bugs_of(crate):
+    """Returns the bugs of the crate's list."""
+    at = f"{HERE}/planted/{crate}.bugs"
+    text = open(at, encoding="utf-8").read() if os.path.exists(at) else ""
+    lines = [it for it in text.split("\n") if not it.startswith("#")]
+    blocks = "\n".join(lines).split("\n\n")
+    return [Bug(it.strip("\n").split("\n")) for it in blocks if it.strip()]
+
+
+def bring(copy):
+    """Makes the copy, or brings it up to date; what was built there stays."""
+    for root, folders, files in os.walk(HERE):
+        folders[:] = [it for it in folders if it not in (".git", "out", "must-fail", "planted")]
+        to = f"{copy}/{os.path.relpath(root, HERE)}"
+        os.makedirs(to, exist_ok=True)
+        for one in os.listdir(to):
+            if one not in files and os.path.isfile(f"{to}/{one}"):
+                os.remove(f"{to}/{one}")
+        for one in files:
+            old, new = f"{to}/{one}", f"{root}/{one}"
+            if not os.path.exists(old) or open(old, "rb").read() != open(new, "rb").read():
+                shutil.copy2(new, old)
+    if not os.path.isdir(f"{copy}/.git"):
+        subprocess.run(["git", "init", "-q", copy], check=True)
+
+
+def function_at(text, line):
+    """Returns the function in which a line of a source file stands, with the type or trait that it belongs to."""
+    owner, name = "", ""
+    for row in text.split("\n")[:line]:
+        found = re.match(r"(?:pub(?:\([a-z]+\))? )?(?:impl|trait)\b(?:<[^{]*?>)? *(.*?) *\{?$", row)
+        if found:
+            owner = re.sub(r"\s*\bwhere\b.*", "", found.group(1))
+        found = re.match(r"( *)(?:pub(?:\([a-z]+\))? )?(?:const )?fn (\w+)", row)
+        if found:
+            name = f"{owner}: {found.group(2)}" if found.group(1) and owner else found.group(2)
+        if row == "}":
+            owner = ""
+    return name or owner
+
+
+def where(said, bug, folder):
+    """Returns where a refused bug was met."""
+    found = PLACE.search(said)
+    if not found:
+        return said.strip(": ")[:100]
+    path, line, told = found.group(1), int(found.group(2)), found.group(3)
+    if path.startswith("src/"):
+        text = bug.changed(folder).get(path) or open(f"{folder}/{path}", encoding="utf-8").read()
+        place = function_at(text, line)
+    else:
+        place = path
+    lost = " (a name went)" if said.startswith(" (only because") else ""
+    return f"{place}{lost}", told[:110]
+
+
+def judge_by_proof(copy, crate, bugs):
+    """Returns what the checker says of each bug, by its name."""
+    folder = f"{copy}/crates/{crate}"
+    edits = f"{folder}/must-fail"
+    shutil.rmtree(edits, ignore_errors=True)
+    os.mkdir(edits)
+    for bug in bugs:
+        with open(f"{edits}/{bug.name}.edit", "w", encoding="utf-8") as out:
+            out.write("\n".join(bug.edits) + "\n")
+    subprocess.run(["rt", "check"], cwd=folder, stdout=subprocess.DEVNULL, stderr=subprocess.DEVNULL)
+    ran = subprocess.run(["rt", "must-fail", crate], cwd=copy, capture_output=True, text=True)
+    shutil.rmtree(edits)
+    said = {it.group(1): (it.group(2), it.group(3)) for it in REFUSED.finditer(ran.stdout + ran.stderr)}
+    for bug in bugs:
+        kind, rest = said.get(bug.name, ("NOT TRIED", ran.stdout[-300:] + ran.stderr[-300:]))
+        yield bug, *(where(rest, bug, folder) if kind.startswith("refused") and PLACE.search(rest) else (kind, rest[:200]))
+
+
+def judge_by_running(copy, crate, bug):
+    """Returns whether a test or the program's own run tells the bug, and what was said."""
+    folder, what = f"{copy}/crates/{crate}", bug.tried.split()
+    texts = bug.changed(folder)
+    kept = {it: open(f"{folder}/{it}", encoding="utf-8").read() for it in texts}
+    try:
+        for at, text in texts.items():
+            open(f"{folder}/{at}", "w", encoding="utf-8").write(text)
+        where_run = f"{copy}/crates/{what[1]}" if len(what) > 1 else folder
+        if what[0] == "tests":
+            ran = subprocess.run(["rt", "try", "--test"], cwd=where_run, capture_output=True, text=True)
+            told = ["test"] if ran.returncode else []
+        else:
+            given = open(f"{folder}/stdin", "rb") if os.path.exists(f"{folder}/stdin") else subprocess.DEVNULL
+            ran = subprocess.run(["rt", "run"], cwd=folder, stdin=given, capture_output=True, text=True)
+            wanted = open(f"{folder}/stdout", encoding="utf-8").read()
+            told = ["run"] if ran.stdout != wanted else []
+        return ("tests" if what[0] == "tests" else "run") if told else "NOT REFUSED", (ran.stdout + ran.stderr)[-200:].strip()
+    finally:
+        for at, text in kept.items():
+            open(f"{folder}/{at}", "w", encoding="utf-8").write(text)
+
+
+def try_all(copy, crates):
+    """Tries the bugs of the crates, and returns how many did not end as their list says."""
+    bring(copy)
+    odd = 0
+    for crate in crates:
+        bugs = bugs_of(crate)
+        for bug in bugs:
+            bug.changed(f"{HERE}/crates/{crate}")
+        proved = judge_by_proof(copy, crate, [it for it in bugs if not it.tried])
+        run = ((it, *judge_by_running(copy, crate, it)) for it in bugs if it.tried)
+        for bug, place, told in [*proved, *run]:
+            is_so = place == "NOT REFUSED" if bug.stays else place == bug.falls
+            odd += not is_so
+            print(f"{'' if is_so else '! '}{crate}/{bug.name}: {place}: {told}", flush=True)
+    return odd
+
+
+def table(crates):
+    """Prints the bugs of the lists as tables."""
+    for crate in crates:
+        bugs = bugs_of(crate)
+        if not bugs:
+            continue
+        rows = {}
+        for bug in bugs:
+            if not bug.stays:
+                rows.setdefault(bug.falls, []).append(bug.name.replace("_", " "))
+        print(f"\n### `{crate}`\n\n| Refused at | Bugs |\n|---|---|")
+        for place, names in rows.items():
+            print(f"| {place} | {'; '.join(names)} |")
+        for bug in bugs:
+            if bug.stays:
+                print(f"| nothing: {bug.stays} | {bug.name.replace('_', ' ')} |")
+
+
+if __name__ == "__main__":
+    if len(sys.argv) > 3 and sys.argv[1] == "try":
+        count = try_all(os.path.abspath(sys.argv[2]), sys.argv[3:])
+        print(f"{count} did not end as their list says")
+        sys.exit(count != 0)
+    if sys.argv[1:] == ["table"]:
+        table([it.split(":")[0] for it in open(f"{HERE}/crates.txt", encoding="utf-8") if re.match(r"\w+:", it)])
+    else:
+        sys.exit(__doc__)
