@@ -1,6 +1,0 @@
-//! Cases that are run against the crate `comparison`.
-
-#![tactic(auto)]
-
-#[cfg(test)]
-mod tests;
