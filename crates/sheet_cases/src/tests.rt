@@ -9,10 +9,8 @@ use std::process::Abort;
 mod accepting;
 mod changing;
 mod edges;
-mod order;
 mod plain;
 mod printing;
-mod refusing;
 
 // A fault: the refusal's number, the line and the layer.
 type Told = (u8, u32, Layer);
@@ -39,9 +37,6 @@ const LINES: [&[u8]; 12] = [
     b"last LOAD",
     b"choice HOLD LOAD",
 ];
-
-// The lines of that sheet in which rules stand.
-const RULES: [u32; 6] = [6, 7, 8, 10, 11, 12];
 
 // The fault of a sheet, where it is not accepted.
 fn told(sheet: &[u8]) -> Option<Told> {
