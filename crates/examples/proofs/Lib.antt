@@ -1,1 +1,2 @@
 pub mod LoadFirst
+pub mod Held

@@ -22,6 +22,14 @@ hold_directly = described 3 3 (1 ∷ 0 ∷ 0 ∷ 2 ∷ 0 ∷ 2 ∷ 2 ∷ 2 ∷ 2
 abbrev pub LoadFirst : Show → Type 0
 LoadFirst s = (i : ℕ) → i < length s → slice_index s i ≡ 2 → (k : ℕ) × (k < i) × (slice_index s k ≡ 0)
 
+-- After every LOAD (cue 0) a HOLD (cue 1) stands later.
+abbrev pub HoldLater : Show → Type 0
+HoldLater s = (i : ℕ) → i < length s → slice_index s i ≡ 0 → (k : ℕ) × (i < k) × (k < length s) × (slice_index s k ≡ 1)
+
+-- Directly after every LOAD (cue 0) stands HOLD (cue 1).
+abbrev pub HoldDirectly : Show → Type 0
+HoldDirectly s = (i : ℕ) → i < length s → slice_index s i ≡ 0 → (suc i < length s) × (slice_index s (suc i) ≡ 1)
+
 -- The names of the three cues. Any other number is written as a question mark.
 abbrev pub cue_name : ℕ → List ℕ
 cue_name zero = codes "LOAD"

@@ -6,7 +6,7 @@ ghost use Rattle.std.specs.Prelude.{◌≡◌, ◌↔◌, IsTrue};
 ghost use Rattle.machine.specs.Show.{Show, Cued};
 ghost use Rattle.machine.specs.Meaning.{allowed};
 ghost use Rattle.machine.specs.Table.{described, Right, Means, table_meaning};
-ghost use Rattle.examples.specs.Example.{load_first, hold_later, hold_directly, LoadFirst, cue_name};
+ghost use Rattle.examples.specs.Example.{load_first, hold_later, hold_directly, LoadFirst, HoldLater, HoldDirectly, cue_name};
 
 use machine::Table;
 
@@ -33,14 +33,18 @@ pub fn flight() -> Table
 
 /// After every LOAD a HOLD stands later.
 pub fn held_later() -> Table
-    ensures { Means (table_meaning result) hold_later }
+    ensures table { Means (table_meaning result) hold_later }
+    ensures rule { (s : Show) → Cued 3 s →
+        (IsTrue (allowed (table_meaning result) s) ↔ HoldLater s) }
 {
     filled(2, 3, &[1, 0, 0, 1, 0, 1], 0b01)
 }
 
 /// Directly after every LOAD stands HOLD.
 pub fn held_directly() -> Table
-    ensures { Means (table_meaning result) hold_directly }
+    ensures table { Means (table_meaning result) hold_directly }
+    ensures rule { (s : Show) → Cued 3 s →
+        (IsTrue (allowed (table_meaning result) s) ↔ HoldDirectly s) }
 {
     filled(3, 3, &[1, 0, 0, 2, 0, 2, 2, 2, 2], 0b001)
 }
