@@ -3,6 +3,7 @@
 
     tools/planted.py try COPY CRATE..    plants them in the copy COPY, which is made or brought up to date, and says of each
                                          where it is refused; the last line counts those that did not end as their list says
+    tools/planted.py write COPY CRATE..  the same, and writes where into the blocks that do not say it yet
     tools/planted.py table               prints the tables of docs/PROMISES.md: every bug of the lists
 
 A list is blocks with a blank line between; a line that begins with # is not read. A block's lines:
@@ -158,8 +159,17 @@ def judge_by_running(copy, crate, bug):
             open(f"{folder}/{at}", "w", encoding="utf-8").write(text)
 
 
-def try_all(copy, crates):
-    """Tries the bugs of the crates, and returns how many did not end as their list says."""
+def put_down(crate, places):
+    """Writes into the crate's list where each of these bugs, by name, was refused."""
+    at = f"{HERE}/planted/{crate}.bugs"
+    text = open(at, encoding="utf-8").read().rstrip("\n") + "\n"
+    for name, place in places.items():
+        text = re.sub(rf"(^bug: {name}\n(?:.+\n)*)", rf"\g<1>falls: {place}\n", text, flags=re.M)
+    open(at, "w", encoding="utf-8").write(text)
+
+
+def try_all(copy, crates, writes=False):
+    """Tries the bugs of the crates, and returns how many did not end as their list says, or now says."""
     bring(copy)
     odd = 0
     for crate in crates:
@@ -168,10 +178,15 @@ def try_all(copy, crates):
             bug.changed(f"{HERE}/crates/{crate}")
         proved = judge_by_proof(copy, crate, [it for it in bugs if not it.tried])
         run = ((it, *judge_by_running(copy, crate, it)) for it in bugs if it.tried)
+        found = {}
         for bug, place, told in [*proved, *run]:
+            if writes and not bug.falls and not bug.stays and place.upper() != place:
+                found[bug.name] = bug.falls = place
             is_so = place == "NOT REFUSED" if bug.stays else place == bug.falls
             odd += not is_so
             print(f"{'' if is_so else '! '}{crate}/{bug.name}: {place}: {told}", flush=True)
+        if found:
+            put_down(crate, found)
     return odd
 
 
@@ -194,8 +209,8 @@ def table(crates):
 
 
 if __name__ == "__main__":
-    if len(sys.argv) > 3 and sys.argv[1] == "try":
-        count = try_all(os.path.abspath(sys.argv[2]), sys.argv[3:])
+    if len(sys.argv) > 3 and sys.argv[1] in ("try", "write"):
+        count = try_all(os.path.abspath(sys.argv[2]), sys.argv[3:], sys.argv[1] == "write")
         print(f"{count} did not end as their list says")
         sys.exit(count != 0)
     if sys.argv[1:] == ["table"]:
