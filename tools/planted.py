@@ -91,7 +91,10 @@ def bring(copy):
 def function_at(text, line):
     """Returns the function in which a line of a source file stands, with the type or trait that it belongs to."""
     owner, name = "", ""
-    for row in text.split("\n")[:line]:
+    rows = text.split("\n")
+    while rows[line - 1].lstrip().startswith("#["):
+        line += 1
+    for row in rows[:line]:
         found = re.match(r"(?:pub(?:\([a-z]+\))? )?(?:impl|trait)\b(?:<[^{]*?>)? *(.*?) *\{?$", row)
         if found:
             owner = re.sub(r"\s*\bwhere\b.*", "", found.group(1))

@@ -2,3 +2,4 @@ pub mod ByLast
 pub mod Order
 pub mod Alike
 pub mod Showing
+pub mod Described

@@ -96,6 +96,10 @@ pub record Means (m : Meaning) (d : Description) : Type 0 where
   pub stays : (p c : ℕ) → (d.states ≤ p) ⊎ (d.cues ≤ c) → m.steps.next p c ≡ p
   pub bars : (p : ℕ) → d.states ≤ p → m.closes p ≡ false
 
+-- A table holds a right description, and means it.
+abbrev pub MeansWhatItHolds : Table → Type 0
+MeansWhatItHolds t = Right (description_of t) × Means (table_meaning t) (description_of t)
+
 -- How a description is answered: accepted when it is right, or else turned down.
 abbrev pub LookedOver : Result Unit FillRefusal → Description → Type 0
 LookedOver r d = MatchResult r (λ _. Right d) (λ e. TurnedDown e d)

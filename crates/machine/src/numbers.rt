@@ -1,7 +1,7 @@
 //! Published numbers.
 ghost use Rattle.std.specs.Prelude.{◌≡◌, ℕ};
 
-/// What is told by a published number: the cases of a refusal, or of a verdict.
+/// What is told by a published number: the cases of a refusal or a verdict, say, or templates.
 pub trait Numbered {
     /// The number of each case.
     ghost number: { Self → ℕ };

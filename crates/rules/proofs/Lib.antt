@@ -9,3 +9,4 @@ pub mod Lacking
 pub mod OneNumbering
 pub mod Numbering
 pub mod Seen
+pub mod Taken

@@ -1,10 +1,12 @@
 -- Templates: when a rule of each holds.
 -- Assumes nothing.
-use Rattle.std.specs.Prelude.{◌≡◌, ℕ, suc, ◌<◌, ◌≤◌, ◌⊎◌, [], length}
-use Rattle.rules.specs.declared.letters.Letter.TheVariants.{A, B}
+use Rattle.std.specs.Prelude.{◌≡◌, ℕ, suc, ◌<◌, ◌≤◌, ◌⊎◌, ◌↔◌, [], ◌∷◌, length}
+use Rattle.rules.specs.declared.letters.Letter.TheVariants.{A, B, Other}
 use Rattle.rules.specs.declared.templates.Template.{Template}
 use Rattle.rules.specs.declared.templates.Template.TheVariants.{Existence, Absence, Exactly, Init, Last, RespondedExistence, CoExistence, Response, Precedence, Succession, AlternateResponse, AlternatePrecedence, AlternateSuccession, ChainResponse, ChainPrecedence, ChainSuccession, NotCoExistence, NotSuccession, NotChainSuccession, Choice, ExclusiveChoice}
+use Rattle.rules.specs.declared.templates.Arguments.TheVariants.{CueAndCount, TwoCues}
 use Rattle.rules.specs.Word.{Word, StandsAt, Stands, StandsLater, StandsEarlier, NotBetween, times_a}
+use Rattle.rules.specs.Naming.{arguments_of}
 
 -- After every A a B stands later.
 abbrev pub Responds : Word → Type 0
@@ -65,3 +67,18 @@ Holds NotChainSuccession n w = (i : ℕ) → StandsAt A w i → StandsAt B w (su
 Holds Choice n w = Stands A w ⊎ Stands B w
 -- exactly one of the two stands
 Holds ExclusiveChoice n w = (Stands A w × (Stands B w → ⊥)) ⊎ ((Stands A w → ⊥) × Stands B w)
+
+-- The word with other in place of each B.
+abbrev pub without_b : Word → Word
+without_b [] = []
+without_b (A ∷ w) = A ∷ without_b w
+without_b (B ∷ w) = Other ∷ without_b w
+without_b (Other ∷ w) = Other ∷ without_b w
+
+-- A template takes just those arguments on which it hangs when it holds: a count or a B that it lacks makes no difference, and one
+-- that it takes makes one.
+pub record TakesWhatItNeeds (t : Template) : Type 0 where
+  pub no_count : (arguments_of t ≡ CueAndCount → ⊥) → (m n : ℕ) (w : Word) → Holds t m w ↔ Holds t n w
+  pub no_b : (arguments_of t ≡ TwoCues → ⊥) → (n : ℕ) (w : Word) → Holds t n (without_b w) ↔ Holds t n w
+  pub count : arguments_of t ≡ CueAndCount → (w : Word) × (Holds t 1 w ↔ Holds t 2 w → ⊥)
+  pub b : arguments_of t ≡ TwoCues → (n : ℕ) → (w : Word) × (Holds t n (without_b w) ↔ Holds t n w → ⊥)

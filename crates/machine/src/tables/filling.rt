@@ -1,7 +1,7 @@
 //! Making and filling a table.
 ghost use Rattle.std.specs.Prelude.{◌≡◌, ◌-◌, ◌^◌, ◌<◌, ◌≤◌, ◌↔◌, ◌++◌, Some, length, replicate, IsTrue};
 ghost use Rattle.machine.specs.Show.{AllBelow};
-ghost use Rattle.machine.specs.Table.{described, description_of, LookedOver, Filled, Made, Holds, fill_number, fill_words, blank};
+ghost use Rattle.machine.specs.Table.{described, description_of, MeansWhatItHolds, LookedOver, Filled, Made, Holds, fill_number, fill_words, blank};
 ghost use Rattle.std.proofs.Common.{rules};
 
 use super::{CELLS, FillRefusal, Table};
@@ -81,9 +81,10 @@ impl Table {
         Ok(table)
     }
 
-    /// How many states the table has.
+    /// How many states the table has: those of the description that it holds, which is right and which it means.
     pub fn states(&self) -> u8
-        ensures { result ≡ (description_of self.now).states }
+        ensures value { result ≡ (description_of self.now).states }
+        ensures means { MeansWhatItHolds self.now }
     {
         self.states
     }

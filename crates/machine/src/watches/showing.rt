@@ -66,7 +66,7 @@ impl<M: Machine> Watch<M> {
         Ok(())
     }
 
-    /// Closes the show: spends its slip and gives the machine back.
+    /// Closes the show: spends the slip and gives the machine back. Slips are alike, so any will do.
     pub fn close(self, slip: Slip) -> Closed<M>
         ensures { result ≡ closed M.Machine.meaning (standing self) }
     {

@@ -23,7 +23,7 @@ impl Rule {
         }
     }
 
-    /// How many states the rule has: those of its minimal automaton, numbered from 0 as shows first reach them.
+    /// How many states the rule has: those of its minimal automaton, numbered from 0 as words over its letters first reach them.
     pub fn states(self) -> u8
         ensures value { result ≡ states_of (terms self) }
         ensures are { StatesAre (terms self).template (terms self).n }

@@ -1,5 +1,6 @@
 //! What templates are called, and which arguments they take.
 ghost use Rattle.std.specs.Prelude.{◌≡◌};
+ghost use Rattle.rules.specs.Template.{TakesWhatItNeeds};
 ghost use Rattle.rules.specs.Naming.{template_number, template_word, arguments_of, WordsToldApart, NumberedSo};
 ghost use Rattle.std.proofs.Common.{rules};
 
@@ -47,9 +48,11 @@ impl Template {
         }
     }
 
-    /// Which arguments the template takes.
+    /// Which arguments the template takes: just those on which it hangs when it holds.
+    #[tactic(auto, using(crate::proofs::Taken::takes_what_it_needs))]
     pub fn arguments(self) -> Arguments
-        ensures { result ≡ arguments_of self }
+        ensures value { result ≡ arguments_of self }
+        ensures needs { TakesWhatItNeeds self }
     {
         match self {
             Template::Existence | Template::Absence | Template::Exactly => Arguments::CueAndCount,
