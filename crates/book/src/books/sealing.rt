@@ -29,7 +29,6 @@ impl Draft {
 impl Book {
     /// Reopens the book: it becomes a draft of the same cues and rules. Of whatever a draft or a book has beside its cue count, its
     /// rules tell all (`whole`): so nothing is lost by sealing and reopening, and nothing left over.
-    #[tactic(auto, using(crate::proofs::Places::told_by_rules))]
     pub fn reopen(self) -> Draft
         ensures content { draft_content result ≡ book_content self }
         ensures whole { ToldByRules }
