@@ -28,12 +28,15 @@ held_rules h = take h.count (places_of h)
 abbrev pub filled_up : List Terms → List Terms
 filled_up rs = rs ++ replicate (most_rules - length rs) blank
 
--- There are places for the rules held, and all places are those rules and blank ones: so the rules held tell all that stands
--- there.
+-- There are places for the rules held, and all places are those rules and blank ones.
 pub record Tidy (h : Held) : Type 0 where
   pub places : length h.rules ≡ most_rules
   pub room : h.count ≤ most_rules
   pub laid : places_of h ≡ filled_up (held_rules h)
+
+-- So of two that hold the same rules, as many are counted, and the same stands in all places.
+unfoldable pub ToldByRules : Type 0
+ToldByRules = (h g : Held) → Tidy h → Tidy g → held_rules h ≡ held_rules g → (h.count ≡ g.count) × (places_of h ≡ places_of g)
 
 -- Giving one of the rules held another count: a right count changes this rule alone, and another changes nothing.
 abbrev pub RetunedAt : ℕ → ℕ → Result Unit RuleRefusal → Held → Held → Type 0

@@ -3,8 +3,7 @@
 mod naming;
 
 /// A rule's value (the truth value of runtime monitoring): what the rule says of the running show and of all that can
-/// follow it. A value's
-/// published number is that of its case.
+/// follow it. A value's published number is that of its case.
 #[derive(Clone, Copy, Debug, PartialEq, Eq, Hash)]
 pub enum Value {
     /// The rule holds now and after every continuation (it is permanently satisfied).

@@ -27,6 +27,9 @@ impl Book {
     }
 
     /// Whether a cue is relevant (its execution relevant) to rule i at a position: value or permitted cues differ after it.
+    ///
+    /// At a position to which a show of the book's cues leads (`behind`), this too is told of that show. While a response is
+    /// pending, one more A is not relevant (`second`).
     #[tactic(auto, using(crate::proofs::Behind::weighed_behind, crate::proofs::Pending::second_a_not_relevant))]
     pub fn relevance(&self, position: u64, i: u8, cue: u8) -> Result<bool, ReadingRefusal>
         ensures answer { Weighed result (book_content self.now) position i cue }

@@ -1,5 +1,6 @@
 //! Sealing a draft, reopening a book, and reading its rules.
 ghost use Rattle.std.specs.Prelude.{◌≡◌, length};
+ghost use Rattle.book.specs.Held.{ToldByRules};
 ghost use Rattle.book.specs.Content.{Found};
 ghost use Rattle.book.specs.Draft.{draft_content};
 ghost use Rattle.book.specs.Book.{book_content, book_meaning, MovesByParts, AllowsWhatHolds, OnePosition};
@@ -26,9 +27,11 @@ impl Draft {
 }
 
 impl Book {
-    /// Reopens the book: it becomes a draft of the same cues and rules.
+    /// Reopens the book: it becomes a draft of the same cues and rules. Of whatever a draft or a book has beside its cue count, its
+    /// rules tell all (`whole`): so nothing is lost by sealing and reopening, and nothing left over.
     pub fn reopen(self) -> Draft
-        ensures { draft_content result ≡ book_content self }
+        ensures content { draft_content result ≡ book_content self }
+        ensures whole { ToldByRules }
     {
         let Book { cues, held, .. } = self;
         Draft { cues, held }

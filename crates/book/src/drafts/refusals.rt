@@ -22,6 +22,8 @@ impl Numbered for DraftRefusal {
 impl fmt::Display for DraftRefusal {
     ghost output = { λ e. Some (draft_words e) };
 
+    ghost styled_output = { λ e _. Some (draft_words e) };
+
     fn fmt<W: fmt::Write>(&self, f: &mut fmt::Formatter<W>) -> fmt::Result {
         f.write_str(match self {
             DraftRefusal::NoSuchTemplate => "the template is not 1 to 21",

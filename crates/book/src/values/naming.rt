@@ -32,6 +32,8 @@ impl Numbered for ReadingRefusal {
 impl fmt::Display for ReadingRefusal {
     ghost output = { λ e. Some (reading_words e) };
 
+    ghost styled_output = { λ e _. Some (reading_words e) };
+
     fn fmt<W: fmt::Write>(&self, f: &mut fmt::Formatter<W>) -> fmt::Result {
         f.write_str(match self {
             ReadingRefusal::NoSuchCue => "the cue is not below the cue count",
