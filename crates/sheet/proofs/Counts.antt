@@ -4,7 +4,8 @@ use Rattle.std.proofs.Common.{◌≡◌, ap, ◌⊎◌, Option, Some, None, Matc
 use Rattle.std.proofs.lemmas.Fmt.{decimal-digits_value, digits_decimal, length-decimal-le, decimal_nonempty, first_decimal, decimal_digit}
 use Rattle.std.proofs.lemmas.List.Elements.{All-cons, All-nil}
 use Rattle.std.proofs.lemmas.Str.Parse.{IsDigitsTest, IsNumeralModel, numerals_by_weight, digits_value_short}
-use Rattle.sheet.specs.Text.{Text, IsDigit, NumeralForm, IsCount, worth, most_count}
+use Rattle.sheet.specs.Fields.{NumeralForm, worth}
+use Rattle.sheet.specs.Text.{Text, IsDigit, IsCount, most_count}
 
 tells : IsDigitsTest (All IsDigit)
 tells = record { empty = All-nil _; parts = λ c cs all. (all 0 0 (omega arith), λ k d low. all (suc k) d (omega arith)); more = λ c cs is all. All-cons IsDigit c cs is all }

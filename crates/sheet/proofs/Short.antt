@@ -16,6 +16,7 @@ use Rattle.rules.specs.Naming.{template_word}
 use Rattle.rules.specs.Rule.{Terms}
 use Rattle.rules.proofs.Every.{template_passes}
 use Rattle.sheet.specs.Fault.{IsArguments}
+use Rattle.sheet.specs.Reading.{NoneIsLonger}
 use Rattle.sheet.specs.Sheet.{Comparison, written, whole, InOrder, NamesInOrder, RulesInOrder, RuleRight, cues_word, left_word, right_word, cues_lines, book_lines, section_line, name_line, rule_line}
 use Rattle.sheet.specs.Text.{Text, NameForm, space, line_end, written_line}
 use Rattle.sheet.proofs.Judging.{rule_arguments}
@@ -89,3 +90,7 @@ short s h =
     let right : List (List Text) = book_lines right_word s.names (length s.right) s.right in
     together (cues ++ left) right 1440 889 (together cues left 552 888 (names_short s.names h.0) (book_short left_word s.names _ s.left h.0.forms h.1))
     (book_short right_word s.names _ s.right h.0.forms h.2)
+
+pub none_is_longer : NoneIsLonger
+unfolding NoneIsLonger
+none_is_longer s h = short s h

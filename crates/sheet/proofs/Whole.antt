@@ -13,7 +13,7 @@ use Rattle.sheet.specs.Fault.{Due, EndDue, due, FaultInLine}
 use Rattle.sheet.specs.Names.{names_of}
 use Rattle.sheet.specs.Reader.{FaultAfter, Passes, NamesSoFar, NamesFault, RulesSoFar, BookFault}
 use Rattle.sheet.specs.WholeSheet.{AtStart, ReadWhole}
-use Rattle.sheet.specs.Reading.{Holds, AcceptedWhenWritten, RefusedByItsFault, ReadRightly}
+use Rattle.sheet.specs.Reading.{Holds, HoldsWritten, AcceptedWhenWritten, RefusedByItsFault, ReadRightly}
 use Rattle.sheet.specs.Sheet.{Comparison, WellFormed, written, Beginning, Opening, InCues, InLeft, InRight, InOrder, RulesInOrder, lines, whole, book_lines, left_word, right_word}
 use Rattle.sheet.specs.Text.{Text}
 use Rattle.sheet.proofs.OneAnswer.{more_due, none_due, accepted_or_not, one_fault, one_sheet}
@@ -71,7 +71,7 @@ module _ (r one two : Reader) (ns : Names) (d : Draft) (start : AtStart r) (h : 
     end_fault_is f g = in_line r f start (whole said) order (none_due (length m.rules) _ _) (rw (append-nil _) at (later all_past g))
 
     -- What is said is written so, and held.
-    pub all_read : three.at ≡ length three.sheet.now → (s : Comparison) × Holds (record { names = ns; left = d; right = e }) s × WellFormed s × (written s ≡ r.sheet.now)
+    pub all_read : three.at ≡ length three.sheet.now → HoldsWritten (record { names = ns; left = d; right = e }) r.sheet.now
     all_read all = (said, holds, order, is_written)
       where
         is_written : written said ≡ r.sheet.now

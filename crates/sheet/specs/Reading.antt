@@ -1,6 +1,6 @@
 -- What reading a sheet answers.
 -- Assumes nothing.
-use Rattle.std.specs.Prelude.{◌≡◌, ℕ, ◌+◌, ◌⊎◌, ◌↔◌, List, length, take, slice_get, Some, Ok, Err, Result, MatchResult}
+use Rattle.std.specs.Prelude.{◌≡◌, ℕ, ◌+◌, ◌≤◌, ◌⊎◌, ◌↔◌, List, length, take, slice_get, Some, Ok, Err, Result, MatchResult}
 use Rattle.book.specs.declared.drafts.DraftRefusal.{DraftRefusal}
 use Rattle.book.specs.declared.drafts.DraftRefusal.TheVariants as draft
 use Rattle.book.specs.Draft.{draft_content}
@@ -27,6 +27,10 @@ pub record Holds (r : Sheet) (s : Comparison) : Type 0 where
   pub left : draft_content r.left ≡ record { cues = length s.names; rules = s.left }
   pub right : draft_content r.right ≡ record { cues = length s.names; rules = s.right }
 
+-- A sheet, as it was read, holds what these bytes say: that is well formed, and written so.
+abbrev pub HoldsWritten : Sheet → Text → Type 0
+HoldsWritten r sheet = (s : Comparison) × Holds r s × WellFormed s × (written s ≡ sheet)
+
 -- The answer is a sheet that holds this; the answer is this fault.
 abbrev pub Accepts : Result Sheet Fault → Comparison → Type 0
 Accepts (Ok r) s = Holds r s
@@ -49,6 +53,10 @@ RefusedByItsFault answer sheet = (f : Fault) → Refuses answer f ↔ FaultOf sh
 unfoldable pub OnlyTheseOfADraft : Type 0
 OnlyTheseOfADraft = (sheet : Text) (f : Fault) (e : DraftRefusal) → FaultOf sheet f → f.refusal ≡ refusal.Draft e → (e ≡ draft.CountOutside) ⊎ (e ≡ draft.SameCue)
 
+-- A theorem that reading carries: no sheet that is well formed has more bytes than these, which are fewer than a sheet may have.
+unfoldable pub NoneIsLonger : Type 0
+NoneIsLonger = (s : Comparison) → WellFormed s → length (written s) ≤ 2329
+
 -- Reading a sheet: what it says, and that it is written so; or its fault.
 abbrev pub ReadRightly : Result Sheet Fault → Text → Type 0
-ReadRightly answer sheet = MatchResult answer (λ r. (s : Comparison) × Holds r s × WellFormed s × (written s ≡ sheet)) (λ f. FaultOf sheet f)
+ReadRightly answer sheet = MatchResult answer (λ r. HoldsWritten r sheet) (λ f. FaultOf sheet f)

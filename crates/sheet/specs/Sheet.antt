@@ -105,6 +105,6 @@ abbrev pub written : Comparison → Text
 written s = begins (whole s)
 
 -- What a sheet says is well formed when all its lines are in order.
--- No such sheet is too long, as is proved, so that the limit takes no well-formed sheet away.
+-- No such sheet is too long, as reading one says, so that the limit takes no well-formed sheet away.
 abbrev pub WellFormed : Comparison → Type 0
 WellFormed s = InOrder (whole s)

@@ -1,6 +1,6 @@
 -- The bytes of a sheet: its lines, the fields of a line, and the forms that fields have.
 -- Assumes nothing.
-use Rattle.std.specs.Prelude.{◌≡◌, ℕ, ◌≤◌, ◌⊎◌, ◌-◌, ◌+◌, ◌*◌, ◌^◌, List, [], ◌∷◌, ◌++◌, length, get_or, All, Option, Some, None, MatchOption, eqb, decimal}
+use Rattle.std.specs.Prelude.{◌≡◌, ℕ, ◌≤◌, ◌⊎◌, List, [], ◌∷◌, ◌++◌, length, All, Option, Some, None, MatchOption, eqb, decimal}
 use Rattle.std.specs.List.{slice_split, join_with_byte}
 
 -- A text is a list of bytes.
@@ -51,15 +51,6 @@ most_count = 999
 -- Reading a text as a count: the number of which it is the decimal text, or none where it has not that form.
 abbrev pub IsCount : Option ℕ → Text → Type 0
 IsCount found x = MatchOption found ((n : ℕ) → n ≤ most_count → x ≡ decimal n → ⊥) (λ n. (n ≤ most_count) × (x ≡ decimal n))
-
--- Digits alone, and a leading zero only where there is nothing else; and what digits are worth.
-pub record NumeralForm (x : Text) : Type 0 where
-  pub digits : All IsDigit x
-  pub no_leading_zero : get_or x 0 0 ≡ 48 → length x ≡ 1
-
-abbrev pub worth : Text → ℕ
-worth [] = 0
-worth (b ∷ more) = (b - 48) * 10 ^ length more + worth more
 
 -- The parts of a text between the bytes of one kind.
 abbrev pub parts : ℕ → Text → List Text

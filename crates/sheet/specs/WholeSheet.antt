@@ -7,9 +7,9 @@ use Rattle.sheet.specs.declared.sheets.Sheet.{Sheet}
 use Rattle.sheet.specs.declared.faults.Refusal.TheVariants as refusal
 use Rattle.sheet.specs.declared.faults.ReaderRefusal.TheVariants.{TooLong}
 use Rattle.sheet.specs.Fault.{FaultInLine}
-use Rattle.sheet.specs.Sheet.{Comparison, WellFormed, written, most_bytes}
+use Rattle.sheet.specs.Sheet.{most_bytes}
 use Rattle.sheet.specs.Text.{Text}
-use Rattle.sheet.specs.Reading.{Holds}
+use Rattle.sheet.specs.Reading.{HoldsWritten}
 
 -- A reader stands before all lines.
 pub record AtStart (r : Reader) : Type 0 where
@@ -23,4 +23,4 @@ Begun answer sheet = MatchResult answer (λ r. (r.sheet.now ≡ sheet) × AtStar
 
 -- Reading a whole sheet, from its start: what it says, and that it is written so; or a fault in one of its lines.
 abbrev pub ReadWhole : Result Sheet Fault → Text → Type 0
-ReadWhole answer sheet = MatchResult answer (λ r. (s : Comparison) × Holds r s × WellFormed s × (written s ≡ sheet)) (λ f. FaultInLine sheet f)
+ReadWhole answer sheet = MatchResult answer (λ r. HoldsWritten r sheet) (λ f. FaultInLine sheet f)

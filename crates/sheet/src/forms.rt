@@ -1,6 +1,7 @@
 //! The forms of names, words and counts.
 ghost use Rattle.std.specs.Prelude.{◌≡◌, ◌-◌, ◌<◌, ◌≤◌, ◌⊎◌, ◌↔◌, length, IsTrue, MatchOption};
-ghost use Rattle.sheet.specs.Text.{NameForm, WordForm, NumeralForm, IsCount, worth};
+ghost use Rattle.sheet.specs.Fields.{NumeralForm, worth};
+ghost use Rattle.sheet.specs.Text.{NameForm, WordForm, IsCount};
 
 const LONGEST_NAME: usize = 16;
 

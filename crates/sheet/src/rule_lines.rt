@@ -26,7 +26,7 @@ struct Asked {
 }
 
 // Reads a rule's line, and puts the rule last in a draft.
-#[tactic(auto, using(crate::proofs::RuleLine::turned_down, crate::proofs::RuleLine::added))]
+#[tactic(auto, using(crate::proofs::RuleLine::turned_down))]
 pub(crate) fn rule(
     line: Option<Line<'_>>,
     names: &Names<'_>,
@@ -40,7 +40,7 @@ pub(crate) fn rule(
 }
 
 // Reads what a rule's line asks to add.
-#[tactic(auto, using(crate::proofs::RuleLine::unknown_name, crate::proofs::RuleLine::is_asked))]
+#[tactic(auto, using(crate::proofs::RuleLine::is_asked))]
 fn asked_by(line: Option<Line<'_>>, names: &Names<'_>) -> Result<Asked, ReaderRefusal>
     ensures { ReadAsked result (names_of names.now) (fields_in line.entry) }
 {
