@@ -1,15 +1,18 @@
--- What one cue number does to the running show.
+-- What the lines that are read do to the running show, and what is printed of them.
 -- Assumes nothing.
-use Rattle.std.specs.Prelude.{◌≡◌, ◌++◌, ◌↔◌, ℕ, List, Ok, Err, IsTrue, Result, MatchResult, codes, decimal, if◌then◌else◌}
+use Rattle.std.specs.Prelude.{◌≡◌, ◌++◌, ◌↔◌, ℕ, List, [], Ok, Err, IsTrue, Result, MatchResult, codes, decimal, min, if◌then◌else◌}
+use Rattle.std.specs.Str.Parse.{IsNumeral, digits_value}
 use Rattle.machine.specs.Show.{Show, Cued}
 use Rattle.machine.specs.Meaning.{allowed}
 use Rattle.machine.specs.declared.tables.Table.{Table}
 use Rattle.machine.specs.declared.watches.Watch.{Watch}
 use Rattle.machine.specs.declared.watches.CueRefusal.{CueRefusal}
 use Rattle.machine.specs.Table.{table_meaning}
-use Rattle.machine.specs.Watch.{standing, cue_answer, after_cues, watch_meaning}
-use Rattle.examples.specs.Example.{LoadFirst}
+use Rattle.machine.specs.Watch.{standing, cue_answer, cue_number, after_cue, after_cues, closed, watch_meaning}
+use Rattle.examples.specs.Example.{LoadFirst, cue_name}
 use Rattle.play.specs.declared.Stand.{Stand}
+use Rattle.play.specs.declared.Answered.{Answered}
+use Rattle.play.specs.declared.Ended.{Ended}
 
 -- Of the shows of the three cues the watch allows just those that have a LOAD before every FLY.
 abbrev pub FliesAfterLoad : Watch Table → Type 0
@@ -22,8 +25,36 @@ Told r before after c = MatchResult r
     (λ e. cue_answer table_meaning (standing before) c ≡ Err e)
 
 -- A stand as it is printed.
-abbrev pub stand_text : Stand → List ℕ
+unfoldable pub stand_text : Stand → List ℕ
 stand_text s = codes "position " ++ decimal s.position ++ codes ", " ++ (if s.may_close then codes "may" else codes "may not") ++ codes " close"
+
+-- A line that is no number: nothing was done.
+abbrev pub NotCalled : Watch Table → Watch Table → List ℕ → Type 0
+NotCalled before after line = ¬ (IsNumeral 10 line) × (standing after ≡ standing before)
+
+-- A line that is a number: it was called, or 255 where it is more, and answered as the watch answers it.
+pub record Called (a : Answered) (before after : Watch Table) (line : List ℕ) : Type 0 where
+  pub numeral : IsNumeral 10 line
+  pub kept : a.line.now ≡ line
+  pub cue : a.cue ≡ min 255 (digits_value 10 line)
+  pub told : Told a.answer before after a.cue
+  pub moved : standing after ≡ after_cue table_meaning (standing before) a.cue
+
+-- What is printed of a line that is a number: of a cue taken the cue, its name and where the show stands; of one turned down the
+-- line as it was read, and the refusal's number.
+abbrev pub answer_text : List ℕ → ℕ → Result Stand CueRefusal → List ℕ
+answer_text line c (Ok s) = decimal c ++ codes " " ++ cue_name c ++ codes ": " ++ stand_text s
+answer_text line c (Err e) = line ++ codes ": refused " ++ decimal (cue_number e)
+
+abbrev pub answered_text : Answered → List ℕ
+answered_text a = answer_text a.line.now a.cue a.answer
+
+-- A show that was closed, and what is printed of it.
+abbrev pub EndedAs : Ended → Watch Table → Type 0
+EndedAs e w = (e.taken ≡ (closed table_meaning (standing w)).taken) × (e.allowed ≡ (closed table_meaning (standing w)).allowed)
+
+abbrev pub ended_text : Ended → List ℕ
+ended_text e = codes "closed after " ++ decimal e.taken ++ codes " cues: " ++ (if e.allowed then [] else codes "not ") ++ codes "allowed"
 
 -- Nothing was done to the watch but calls of cue, some or none.
 abbrev pub OnlyCued : Watch Table → Watch Table → Type 0

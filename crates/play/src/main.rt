@@ -7,10 +7,10 @@ ghost use Rattle.std.specs.Str.Parse.{IsNumeral, digits_value};
 ghost use Rattle.machine.specs.Table.{Means, table_meaning};
 ghost use Rattle.machine.specs.Watch.{standing, after_cue, IsSpent};
 ghost use Rattle.examples.specs.Example.{load_first};
-ghost use Rattle.play.specs.Playing.{FliesAfterLoad, Told, OnlyCued, stand_text};
+ghost use Rattle.play.specs.Playing.{FliesAfterLoad, Told, NotCalled, Called, OnlyCued, EndedAs, stand_text, answered_text, ended_text};
 
 use examples::{flight, name};
-use machine::{CueRefusal, Machine, Numbered, Slip, Table, Watch};
+use machine::{Closed, CueRefusal, Machine, Numbered, Slip, Table, Watch};
 use std::fmt;
 
 // Where a show stands: the position reached, and whether the show may close there.
@@ -23,10 +23,55 @@ struct Stand {
 impl fmt::Display for Stand {
     ghost output = { λ stand. Some (stand_text stand) };
 
+    #[tactic(auto, unfolding(crate::specs::Playing::stand_text))]
     fn fmt<W: fmt::Write>(&self, f: &mut fmt::Formatter<W>) -> fmt::Result {
         let position = self.position;
         let may = if self.may_close { "may" } else { "may not" };
         write!(f, "position {position}, {may} close")
+    }
+}
+
+// What a line that is a number came to: the line, the cue that was called, and how it was answered.
+#[derive(Drop)]
+struct Answered<'a> {
+    line: &'a str,
+    cue: u8,
+    answer: Result<Stand, CueRefusal>,
+}
+
+impl fmt::Display for Answered<'_> {
+    ghost output = { λ answered. Some (answered_text answered) };
+
+    fn fmt<W: fmt::Write>(&self, f: &mut fmt::Formatter<W>) -> fmt::Result {
+        match &self.answer {
+            Ok(stand) => {
+                let cue = self.cue;
+                let cue_name = name(cue);
+                write!(f, "{cue} {cue_name}: {stand}")
+            }
+            Err(refusal) => {
+                let line = self.line;
+                let number = refusal.number();
+                write!(f, "{line}: refused {number}")
+            }
+        }
+    }
+}
+
+// A closed show: how many cues it took, and whether the example allows it.
+#[derive(Drop)]
+struct Ended {
+    taken: u16,
+    allowed: bool,
+}
+
+impl fmt::Display for Ended {
+    ghost output = { λ ended. Some (ended_text ended) };
+
+    fn fmt<W: fmt::Write>(&self, f: &mut fmt::Formatter<W>) -> fmt::Result {
+        let taken = self.taken;
+        let denial = if self.allowed { "" } else { "not " };
+        write!(f, "closed after {taken} cues: {denial}allowed")
     }
 }
 
@@ -71,53 +116,44 @@ fn take(watch: &mut Watch<Table>, cue: u8) -> Result<Stand, CueRefusal>
     })
 }
 
+// Calls the cue of a line that is a number, and says what it did.
+fn call<'a>(watch: &mut Watch<Table>, line: &'a str) -> Option<Answered<'a>>
+    ensures { MatchOption result (NotCalled watch.old watch.new line.now) (λ a. Called a watch.old watch.new line.now) }
+{
+    let cue = number(line)?;
+    let answer = take(watch, cue);
+    Some(Answered { line, cue, answer })
+}
+
 // Plays each line that is a number, and tells what it did.
 fn play(rt: &(impl Input + Alloc + Print), watch: &mut Watch<Table>) -> anyhow::Result<()>
     ensures { OnlyCued watch.old watch.new }
 {
     for line in rt.lines(rt.alloc()) {
         let line = line?;
-        match number(line.as_str()) {
-            Some(cue) => tell(rt, line.as_str(), cue, take(watch, cue))?,
+        match call(watch, line.as_str()) {
+            Some(answered) => println!(rt; "{answered}")?,
             None => println!(rt; "not a number: {line:?}")?,
         }
     }
     Ok(())
 }
 
-// Prints what a cue number did.
-fn tell(
-    rt: &impl Print,
-    line: &str,
-    cue: u8,
-    answer: Result<Stand, CueRefusal>,
-) -> anyhow::Result<()> {
-    match answer {
-        Ok(stand) => {
-            let cue_name = name(cue);
-            println!(rt; "{cue} {cue_name}: {stand}")?;
-        }
-        Err(refusal) => {
-            let number = refusal.number();
-            println!(rt; "{line}: refused {number}")?;
-        }
-    }
-    Ok(())
+// Closes the show with its slip.
+fn end(watch: Watch<Table>, slip: Slip) -> Ended
+    ensures { EndedAs result watch }
+{
+    let Closed { taken, allowed, .. } = watch.close(slip);
+    Ended { taken, allowed }
 }
 
 // Begins a show over the example, plays it, and closes it with its slip, whether or not all of it could be read and told.
 fn run(rt: &(impl Input + Alloc + Print)) -> anyhow::Result<()> {
     let (mut watch, slip) = begin();
     let played = play(rt, &mut watch);
-    let closed = watch.close(slip);
+    let ended = end(watch, slip);
     played?;
-    let taken = closed.taken;
-    let verdict = if closed.allowed {
-        "allowed"
-    } else {
-        "not allowed"
-    };
-    println!(rt; "closed after {taken} cues: {verdict}")?;
+    println!(rt; "{ended}")?;
     Ok(())
 }
 
