@@ -5,6 +5,7 @@ use machine::{
     show_order,
 };
 use std::cmp::Ordering;
+use std::process::Abort;
 use std::test::Fail;
 
 // What a table is filled from: state count, cue count, how many bytes of one value, that value, and the closing bits.
@@ -42,29 +43,33 @@ const FILLS: [(Fill, Option<u8>); 23] = [
     (Fill(1, 1, 7, 9, u64::MAX), Some(16)),
 ];
 
-// How a filling of a new table is answered, and the table after it.
-fn filled(fill: &Fill) -> (Result<(), FillRefusal>, Table) {
+// The number of the refusal of a filling of a new table, and the table after it.
+fn filled(fill: &Fill) -> (Option<u8>, Table) {
     let Fill(states, cues, length, byte, closing) = fill;
     let bytes = [*byte; 2049];
     let mut table = Table::new();
-    let answer = table.fill(*states, *cues, &bytes[..(*length).min(2049)], *closing);
-    (answer, table)
+    match table.fill(*states, *cues, &bytes[..(*length).min(2049)], *closing) {
+        Ok(()) => (None, table),
+        Err(refusal) => (Some(refusal.number()), table),
+    }
+}
+
+// A filling is answered so. A table that is turned down stays new.
+fn try_fill(rt: &impl Abort, fill: &Fill, refusal: Option<u8>) {
+    let (answer, table) = filled(fill);
+    assert_eq!(rt; answer, refusal);
+    let counts = match answer {
+        None => (fill.0, fill.1),
+        Some(_) => (1, 1),
+    };
+    assert_eq!(rt; (table.states(), table.cues()), counts);
+    assert_eq!(rt; table.start(), 0);
 }
 
 #[test]
 fn tables_are_filled_or_turned_down(rt: HostRuntime) {
     for (fill, refusal) in &FILLS {
-        let Fill(states, cues, ..) = fill;
-        let (answer, table) = filled(fill);
-        assert_eq!(rt; answer.err().map(FillRefusal::number), *refusal);
-        // a table that is turned down stays new
-        let (states, cues) = match answer {
-            Ok(()) => (*states, *cues),
-            Err(_) => (1, 1),
-        };
-        assert_eq!(rt; table.states(), states);
-        assert_eq!(rt; table.cues(), cues);
-        assert_eq!(rt; table.start(), 0);
+        try_fill(&rt, fill, *refusal);
     }
 }
 
@@ -92,21 +97,24 @@ const STEPS: [(u64, u8, u64); 14] = [
     (u64::MAX, 0, u64::MAX),
 ];
 
+// A position, and whether a show may close there in the small table.
+const CLOSING: [(u64, bool); 6] = [
+    (0, true),
+    (1, false),
+    (2, true),
+    (3, false),
+    (64, false),
+    (u64::MAX, false),
+];
+
 #[test]
 fn tables_step_and_close(rt: HostRuntime) -> Result<(), Fail> {
     let mut table = small()?;
     assert!(rt; table.fill(3, 2, &[1, 2, 0, 2, 2, 3], 0b111).is_err());
-    for (position, cue, next) in STEPS {
+    for &(position, cue, next) in &STEPS {
         assert_eq!(rt; table.next(position, cue), next);
     }
-    for (position, closes) in [
-        (0, true),
-        (1, false),
-        (2, true),
-        (3, false),
-        (64, false),
-        (u64::MAX, false),
-    ] {
+    for &(position, closes) in &CLOSING {
         assert_eq!(rt; table.may_close(position), closes);
     }
     Ok(())
@@ -122,16 +130,28 @@ const SHOWS: [(&[u8], u64, bool); 6] = [
     (&[1, 0, 0, 1, 0], 0, true),
 ];
 
+// A new table allows no show. So a show divides it from this table exactly when this one allows the show.
+fn try_divides(rt: &impl Abort, table: &Table, show: &[u8], allowed: bool) {
+    let nowhere = Table::new();
+    assert_eq!(rt; divides(table, &nowhere, show), allowed);
+    assert_eq!(rt; divides(&nowhere, table, show), allowed);
+    assert!(rt; !divides(table, table, show));
+}
+
 #[test]
 fn shows_lead_to_positions(rt: HostRuntime) -> Result<(), Fail> {
     let table = small()?;
-    let nowhere = Table::new();
-    for (show, position, allowed) in SHOWS {
+    for &(show, position, allowed) in &SHOWS {
         assert_eq!(rt; leads_to(&table, show), position);
         assert_eq!(rt; allows(&table, show), allowed);
-        assert_eq!(rt; divides(&table, &nowhere, show), allowed);
-        assert_eq!(rt; divides(&nowhere, &table, show), allowed);
-        assert!(rt; !divides(&table, &table, show));
+        try_divides(&rt, &table, show, allowed);
+    }
+    Ok(())
+}
+
+#[test]
+fn shows_are_rehearsed(rt: HostRuntime) -> Result<(), Fail> {
+    for &(show, _, allowed) in &SHOWS {
         let closed = rehearse(small()?, show);
         assert_eq!(rt; closed.allowed, allowed);
         assert_eq!(rt; usize::from(closed.taken), show.len());
@@ -149,7 +169,10 @@ fn what_is_no_cue_is_not_heard(rt: HostRuntime) -> Result<(), Fail> {
 
 // The number of the refusal where a cue is turned down.
 fn refused(answer: Result<(), CueRefusal>) -> Option<u8> {
-    answer.err().map(CueRefusal::number)
+    match answer {
+        Ok(()) => None,
+        Err(refusal) => Some(refusal.number()),
+    }
 }
 
 // A new table's one cue, called many times, and then once more, and then what is no cue: how the last two are turned down, and the
@@ -164,20 +187,21 @@ fn long_show(calls: u16) -> (Option<u8>, Option<u8>, Closed<Table>) {
     (more, stranger, watch.close(slip))
 }
 
+// How often the cue is called, the refusal of the next call, and how many cues were taken.
+const LONG_SHOWS: [(u16, Option<u8>, u16); 5] = [
+    (0, None, 1),
+    (9_998, None, 9_999),
+    (9_999, None, 10_000),
+    (10_000, Some(22), 10_000),
+    (10_001, Some(22), 10_000),
+];
+
 #[test]
 fn a_show_takes_ten_thousand_cues(rt: HostRuntime) {
-    for (calls, refusal, taken) in [
-        (0, None, 1),
-        (9_998, None, 9_999),
-        (9_999, None, 10_000),
-        (10_000, Some(22), 10_000),
-        (10_001, Some(22), 10_000),
-    ] {
+    for &(calls, refusal, taken) in &LONG_SHOWS {
         let (more, stranger, closed) = long_show(calls);
-        assert_eq!(rt; more, refusal);
-        assert_eq!(rt; stranger, Some(21));
-        assert_eq!(rt; closed.taken, taken);
-        assert!(rt; !closed.allowed);
+        assert_eq!(rt; (more, stranger), (refusal, Some(21)));
+        assert_eq!(rt; (closed.taken, closed.allowed), (taken, false));
     }
 }
 
@@ -226,7 +250,7 @@ const ORDERS: [(&[u8], &[u8], Ordering); 8] = [
 
 #[test]
 fn shows_stand_in_order(rt: HostRuntime) {
-    for (s, t, order) in ORDERS {
+    for &(s, t, order) in &ORDERS {
         assert_eq!(rt; show_order(s, t), order);
         assert_eq!(rt; show_order(t, s), order.reverse());
     }
