@@ -12,6 +12,7 @@ A list is blocks with a blank line between; a line that begins with # is not rea
     file: src/lib.rt         and then pairs of old: and new:, as in a must-fail edit; more files may follow
     tried: tests             where tests judge it and no proof: `rt try --test` in this crate, or `tried: tests CRATE`
     tried: run               where a run of the program judges it: what it writes of its stdin is not its stdout
+    tried: cases             where the sheets that the gate runs `compare` on judge it
     falls: WHERE             the function whose contract refuses it, as try says it, or what test or run
     stays: REASON            in place of falls, where nothing refuses it: why that is right
 """
@@ -140,7 +141,7 @@ def judge_by_proof(copy, crate, bugs):
 
 
 def judge_by_running(copy, crate, bug):
-    """Returns whether a test or the program's own run tells the bug, and what was said."""
+    """Returns whether tests, the program's own run or the cases of sheets tell the bug, and what was said."""
     folder, what = f"{copy}/crates/{crate}", bug.tried.split()
     texts = bug.changed(folder)
     kept = {it: open(f"{folder}/{it}", encoding="utf-8").read() for it in texts}
@@ -150,13 +151,15 @@ def judge_by_running(copy, crate, bug):
         where_run = f"{copy}/crates/{what[1]}" if len(what) > 1 else folder
         if what[0] == "tests":
             ran = subprocess.run(["rt", "try", "--test"], cwd=where_run, capture_output=True, text=True)
-            told = ["test"] if ran.returncode else []
+            told = ran.returncode != 0
+        elif what[0] == "cases":
+            ran = subprocess.run([f"{copy}/.ci/compare"], capture_output=True, text=True)
+            told = "not as expected" in ran.stdout
         else:
             given = open(f"{folder}/stdin", "rb") if os.path.exists(f"{folder}/stdin") else subprocess.DEVNULL
             ran = subprocess.run(["rt", "run"], cwd=folder, stdin=given, capture_output=True, text=True)
-            wanted = open(f"{folder}/stdout", encoding="utf-8").read()
-            told = ["run"] if ran.stdout != wanted else []
-        return ("tests" if what[0] == "tests" else "run") if told else "NOT REFUSED", (ran.stdout + ran.stderr)[-200:].strip()
+            told = ran.stdout != open(f"{folder}/stdout", encoding="utf-8").read()
+        return what[0] if told else "NOT REFUSED", (ran.stdout + ran.stderr)[-200:].strip()
     finally:
         for at, text in kept.items():
             open(f"{folder}/{at}", "w", encoding="utf-8").write(text)
