@@ -72,7 +72,7 @@ fill_number CueCount = 15
 fill_number Length = 16
 fill_number NoSuchState = 17
 
--- What is printed of the refusals.
+-- What is printed of the refusals, whatever the options of the format.
 abbrev pub fill_words : FillRefusal → List ℕ
 fill_words StateCount = codes "the state count is not 1 to 64"
 fill_words CueCount = codes "the cue count is not 1 to 32"

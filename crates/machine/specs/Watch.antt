@@ -19,7 +19,7 @@ abbrev pub cue_number : CueRefusal → ℕ
 cue_number NoSuchCue = 21
 cue_number ShowFull = 22
 
--- What is printed of the refusals.
+-- What is printed of the refusals, whatever the options of the format.
 abbrev pub cue_words : CueRefusal → List ℕ
 cue_words NoSuchCue = codes "the number is not below the cue count"
 cue_words ShowFull = codes "10,000 cues are taken"

@@ -56,7 +56,7 @@ abbrev pub refusal_number : RuleRefusal → ℕ
 refusal_number CountOutside = 10
 refusal_number SameCue = 11
 
--- What is printed of the refusals.
+-- What is printed of the refusals, whatever the options of the format.
 abbrev pub refusal_words : RuleRefusal → List ℕ
 refusal_words CountOutside = codes "the count is not 1 to 14"
 refusal_words SameCue = codes "A and B are the same cue"

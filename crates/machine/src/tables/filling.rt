@@ -26,6 +26,8 @@ impl Numbered for FillRefusal {
 impl fmt::Display for FillRefusal {
     ghost output = { λ e. Some (fill_words e) };
 
+    ghost styled_output = { λ e spec. Some (fill_words e) };
+
     fn fmt<W: fmt::Write>(&self, f: &mut fmt::Formatter<W>) -> fmt::Result {
         f.write_str(match self {
             FillRefusal::StateCount => "the state count is not 1 to 64",

@@ -24,6 +24,8 @@ impl Numbered for CueRefusal {
 impl fmt::Display for CueRefusal {
     ghost output = { λ e. Some (cue_words e) };
 
+    ghost styled_output = { λ e spec. Some (cue_words e) };
+
     fn fmt<W: fmt::Write>(&self, f: &mut fmt::Formatter<W>) -> fmt::Result {
         f.write_str(match self {
             CueRefusal::NoSuchCue => "the number is not below the cue count",

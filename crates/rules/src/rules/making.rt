@@ -24,6 +24,8 @@ impl Numbered for RuleRefusal {
 impl fmt::Display for RuleRefusal {
     ghost output = { λ e. Some (refusal_words e) };
 
+    ghost styled_output = { λ e spec. Some (refusal_words e) };
+
     fn fmt<W: fmt::Write>(&self, f: &mut fmt::Formatter<W>) -> fmt::Result {
         f.write_str(match self {
             RuleRefusal::CountOutside => "the count is not 1 to 14",
