@@ -27,28 +27,33 @@ fn a_sheet_is_refused_wherever_it_is_cut_short(rt: HostRuntime) {
     try_cuts(&rt, written(&LINES).text());
 }
 
-// What bytes are changed to.
-const BYTES: [u8; 8] = [b'\n', b' ', b'A', b'a', b'0', b'1', b'-', 255];
+// What bytes are changed to; the last leaves them out.
+const BYTES: [&[u8]; 9] = [b"\n", b" ", b"A", b"a", b"0", b"1", b"-", b"\xff", b""];
 
-// Changes every byte to a few others, leaves each out, doubles each, and puts each behind the next. Answers how many of all these
-// sheets are accepted.
+// Puts a text between two others. Answers 1 if that sheet is accepted, and else 0.
+fn put(rt: &impl Abort, before: &[u8], text: &[u8], behind: &[u8]) -> u32 {
+    u32::from(agrees(rt, joined(before, text, behind).text()))
+}
+
+// Changes a byte to a few others, leaves it out, doubles it, and puts it behind the next. Answers how many of these sheets are
+// accepted.
+fn change_byte(rt: &impl Abort, before: &[u8], own: u8, behind: &[u8]) -> u32 {
+    let mut accepted = put(rt, before, &[own, own], behind);
+    for text in &BYTES {
+        accepted = accepted.saturating_add(put(rt, before, text, behind));
+    }
+    match behind {
+        [next, rest @ ..] => accepted.saturating_add(put(rt, before, &[*next, own], rest)),
+        [] => accepted,
+    }
+}
+
+// Changes every byte so. Answers how many of all these sheets are accepted.
 fn change_bytes(rt: &impl Abort, sheet: &[u8]) -> u32 {
     let mut accepted: u32 = 0;
-    let mut count = |sheet: &[u8]| {
-        if agrees(rt, sheet) {
-            accepted = accepted.saturating_add(1);
-        }
-    };
     for (at, own) in sheet.iter().enumerate() {
-        let (before, behind) = (&sheet[..at], &sheet[at + 1..]);
-        for byte in BYTES {
-            count(joined(before, &[byte], behind).text());
-        }
-        count(joined(before, b"", behind).text());
-        count(joined(before, &[*own, *own], behind).text());
-        if let [next, rest @ ..] = behind {
-            count(joined(before, &[*next, *own], rest).text());
-        }
+        let more = change_byte(rt, &sheet[..at], *own, &sheet[at + 1..]);
+        accepted = accepted.saturating_add(more);
     }
     accepted
 }

@@ -1,71 +1,115 @@
 //! Sheets at the edges of what is accepted: the most and the fewest of everything, and every byte in every kind of field.
-use super::plain::{self, WORDS};
-use super::{EXAMPLE, Page, Terms, joined, layer_of, terms_of, told, try_line, try_sheet};
-use sheet::Sheet;
+use super::accepting::{Place, sheet_holds};
+use super::plain::WORDS;
+use super::{Page, Terms, Told, joined, try_line, try_sheet};
+use sheet::Layer::Reader;
 use std::process::Abort;
 use std::test::Fail;
 
-// What a sheet begins with, the byte that fills it up to a length, and the number of the refusal with its line.
-const LENGTHS: [(&[u8], u8, usize, u8, u32); 12] = [
-    (b"", b'A', 16_384, 2, 1),
-    (b"", b'A', 16_385, 1, 0),
-    (b"", 255, 70_000, 1, 0),
-    (b"cues 0\n", b'\n', 16_384, 3, 1),
-    (b"cues 0\n", b'\n', 16_385, 1, 0),
-    (b"cues 1\n", b'A', 16_384, 2, 2),
-    (EXAMPLE, b'\n', 81, 7, 9),
-    (EXAMPLE, b'A', 81, 7, 9),
-    (EXAMPLE, b'\n', 16_384, 7, 9),
-    (EXAMPLE, b'A', 16_384, 7, 9),
-    (EXAMPLE, b'\n', 16_385, 1, 0),
-    (EXAMPLE, b'A', 16_385, 1, 0),
+#[test]
+fn long_sheets_are_refused(rt: HostRuntime) {
+    try_sheet(&rt, &[b'A'; 16_384], Some((2, 1, Reader)));
+    try_sheet(&rt, &[b'A'; 16_385], Some((1, 0, Reader)));
+    try_sheet(&rt, &[255; 70_000], Some((1, 0, Reader)));
+}
+
+// Names as long as they may be, each with the line and the byte at which it begins behind a line of eight bytes.
+const NAMES: [Place; 33] = [
+    (b"LONG-ENOUGH---00", 2, 8),
+    (b"LONG-ENOUGH---01", 3, 25),
+    (b"LONG-ENOUGH---02", 4, 42),
+    (b"LONG-ENOUGH---03", 5, 59),
+    (b"LONG-ENOUGH---04", 6, 76),
+    (b"LONG-ENOUGH---05", 7, 93),
+    (b"LONG-ENOUGH---06", 8, 110),
+    (b"LONG-ENOUGH---07", 9, 127),
+    (b"LONG-ENOUGH---08", 10, 144),
+    (b"LONG-ENOUGH---09", 11, 161),
+    (b"LONG-ENOUGH---10", 12, 178),
+    (b"LONG-ENOUGH---11", 13, 195),
+    (b"LONG-ENOUGH---12", 14, 212),
+    (b"LONG-ENOUGH---13", 15, 229),
+    (b"LONG-ENOUGH---14", 16, 246),
+    (b"LONG-ENOUGH---15", 17, 263),
+    (b"LONG-ENOUGH---16", 18, 280),
+    (b"LONG-ENOUGH---17", 19, 297),
+    (b"LONG-ENOUGH---18", 20, 314),
+    (b"LONG-ENOUGH---19", 21, 331),
+    (b"LONG-ENOUGH---20", 22, 348),
+    (b"LONG-ENOUGH---21", 23, 365),
+    (b"LONG-ENOUGH---22", 24, 382),
+    (b"LONG-ENOUGH---23", 25, 399),
+    (b"LONG-ENOUGH---24", 26, 416),
+    (b"LONG-ENOUGH---25", 27, 433),
+    (b"LONG-ENOUGH---26", 28, 450),
+    (b"LONG-ENOUGH---27", 29, 467),
+    (b"LONG-ENOUGH---28", 30, 484),
+    (b"LONG-ENOUGH---29", 31, 501),
+    (b"LONG-ENOUGH---30", 32, 518),
+    (b"LONG-ENOUGH---31", 33, 535),
+    (b"LONG-ENOUGH---32", 34, 552),
 ];
 
-#[test]
-fn long_sheets_are_refused(rt: HostRuntime) -> Result<(), Fail> {
-    for (front, byte, length, number, line) in LENGTHS {
-        let mut sheet = vec![in rt.alloc(); byte; length]?;
-        for (place, own) in sheet.iter_mut().zip(front) {
-            *place = *own;
-        }
-        let expected = Some((number, line, layer_of(number)));
-        assert_eq!(rt; told(&sheet), expected, "{length} of {byte}");
-        assert_eq!(rt; plain::told(&sheet), expected, "{length} of {byte}");
-    }
-    Ok(())
-}
+// Rules as long as they may be, each about two of the cues in turn.
+const RULES: [&[u8]; 17] = [
+    b"not-chain-succession LONG-ENOUGH---00 LONG-ENOUGH---31",
+    b"not-chain-succession LONG-ENOUGH---01 LONG-ENOUGH---30",
+    b"not-chain-succession LONG-ENOUGH---02 LONG-ENOUGH---29",
+    b"not-chain-succession LONG-ENOUGH---03 LONG-ENOUGH---28",
+    b"not-chain-succession LONG-ENOUGH---04 LONG-ENOUGH---27",
+    b"not-chain-succession LONG-ENOUGH---05 LONG-ENOUGH---26",
+    b"not-chain-succession LONG-ENOUGH---06 LONG-ENOUGH---25",
+    b"not-chain-succession LONG-ENOUGH---07 LONG-ENOUGH---24",
+    b"not-chain-succession LONG-ENOUGH---08 LONG-ENOUGH---23",
+    b"not-chain-succession LONG-ENOUGH---09 LONG-ENOUGH---22",
+    b"not-chain-succession LONG-ENOUGH---10 LONG-ENOUGH---21",
+    b"not-chain-succession LONG-ENOUGH---11 LONG-ENOUGH---20",
+    b"not-chain-succession LONG-ENOUGH---12 LONG-ENOUGH---19",
+    b"not-chain-succession LONG-ENOUGH---13 LONG-ENOUGH---18",
+    b"not-chain-succession LONG-ENOUGH---14 LONG-ENOUGH---17",
+    b"not-chain-succession LONG-ENOUGH---15 LONG-ENOUGH---16",
+    b"not-chain-succession LONG-ENOUGH---16 LONG-ENOUGH---15",
+];
 
-// A name of sixteen bytes for each number.
-fn long_name(number: u8) -> [u8; 16] {
-    let mut name = *b"LONG-ENOUGH---00";
-    for (place, digit) in name.iter_mut().skip(14).zip([number / 10, number % 10]) {
-        *place = digit.saturating_add(b'0');
-    }
-    name
-}
+// What the first sixteen are read as.
+const TERMS: [Terms; 16] = [
+    (19, 0, 31, 0),
+    (19, 1, 30, 0),
+    (19, 2, 29, 0),
+    (19, 3, 28, 0),
+    (19, 4, 27, 0),
+    (19, 5, 26, 0),
+    (19, 6, 25, 0),
+    (19, 7, 24, 0),
+    (19, 8, 23, 0),
+    (19, 9, 22, 0),
+    (19, 10, 21, 0),
+    (19, 11, 20, 0),
+    (19, 12, 19, 0),
+    (19, 13, 18, 0),
+    (19, 14, 17, 0),
+    (19, 15, 16, 0),
+];
 
-// A count, and how many lines there are.
-type Count = (&'static [u8], u8);
+// The count in the line of a section, and how many lines stand under it.
+type Count = (&'static [u8], usize);
 
-// Puts the section of a book under a count, with so many of the longest rules, each about two of the cues in turn.
+// Puts the section of a book, with so many of the longest rules.
 fn put_rules(page: &mut Page, word: &[u8], count: Count) {
     page.put(word);
     page.put(count.0);
     page.put(b"\n");
-    for number in 0..count.1 {
-        page.put(b"not-chain-succession ");
-        page.put(&long_name(number));
-        page.put(b" ");
-        page.put(&long_name(31_u8.saturating_sub(number)));
+    for line in RULES.iter().take(count.1) {
+        page.put(line);
         page.put(b"\n");
     }
 }
 
-// A sheet with so many long names and so many rules a side.
+// A sheet with so many of the longest names, and so many of the longest rules a side.
 fn long_sheet(names: Count, left: Count, right: Count) -> Page {
     let mut page = joined(b"cues ", names.0, b"\n");
-    for number in 0..names.1 {
-        page.put(&long_name(number));
+    for (name, _, _) in NAMES.iter().take(names.1) {
+        page.put(name);
         page.put(b"\n");
     }
     put_rules(&mut page, b"left ", left);
@@ -73,61 +117,37 @@ fn long_sheet(names: Count, left: Count, right: Count) -> Page {
     page
 }
 
-// How many names and rules a side a sheet has and says it has, and the number of the refusal with its line.
-const COUNTS: [(Count, Count, Count, Option<(u8, u32)>); 14] = [
+// How many names and rules a side a sheet says it has and has, and the number of the refusal with its line.
+const COUNTS: [(Count, Count, Count, Option<Told>); 14] = [
     ((b"32", 32), (b"16", 16), (b"16", 16), None),
     ((b"32", 32), (b"16", 16), (b"0", 0), None),
     ((b"32", 32), (b"0", 0), (b"16", 16), None),
-    ((b"33", 33), (b"0", 0), (b"0", 0), Some((3, 1))),
-    ((b"32", 33), (b"0", 0), (b"0", 0), Some((2, 34))),
-    ((b"31", 32), (b"0", 0), (b"0", 0), Some((2, 33))),
-    ((b"32", 31), (b"0", 0), (b"0", 0), Some((2, 33))),
-    ((b"32", 32), (b"17", 17), (b"0", 0), Some((3, 34))),
-    ((b"32", 32), (b"16", 17), (b"0", 0), Some((2, 51))),
-    ((b"32", 32), (b"16", 15), (b"0", 0), Some((5, 50))),
-    ((b"32", 32), (b"16", 16), (b"17", 17), Some((3, 51))),
-    ((b"32", 32), (b"16", 16), (b"16", 17), Some((7, 68))),
-    ((b"32", 32), (b"16", 16), (b"16", 15), Some((2, 67))),
-    ((b"31", 31), (b"0", 0), (b"1", 1), Some((6, 35))),
+    ((b"33", 33), (b"0", 0), (b"0", 0), Some((3, 1, Reader))),
+    ((b"32", 33), (b"0", 0), (b"0", 0), Some((2, 34, Reader))),
+    ((b"31", 32), (b"0", 0), (b"0", 0), Some((2, 33, Reader))),
+    ((b"32", 31), (b"0", 0), (b"0", 0), Some((2, 33, Reader))),
+    ((b"32", 32), (b"17", 17), (b"0", 0), Some((3, 34, Reader))),
+    ((b"32", 32), (b"16", 17), (b"0", 0), Some((2, 51, Reader))),
+    ((b"32", 32), (b"16", 15), (b"0", 0), Some((5, 50, Reader))),
+    ((b"32", 32), (b"16", 16), (b"17", 17), Some((3, 51, Reader))),
+    ((b"32", 32), (b"16", 16), (b"16", 17), Some((7, 68, Reader))),
+    ((b"32", 32), (b"16", 16), (b"16", 15), Some((2, 67, Reader))),
+    ((b"31", 31), (b"0", 0), (b"1", 1), Some((6, 35, Reader))),
 ];
 
 #[test]
 fn the_most_and_the_fewest_lines_are_read(rt: HostRuntime) {
-    for (names, left, right, fault) in COUNTS {
-        let page = long_sheet(names, left, right);
-        try_sheet(
-            &rt,
-            page.text(),
-            fault.map(|(number, line)| (number, line, layer_of(number))),
-        );
+    for (names, left, right, fault) in &COUNTS {
+        let page = long_sheet(*names, *left, *right);
+        try_sheet(&rt, page.text(), *fault);
     }
 }
 
-// Its names and rules are read as they were put, and each name begins seventeen bytes behind the one before.
 #[test]
 fn the_longest_sheet_is_accepted(rt: HostRuntime) -> Result<(), Fail> {
     let page = long_sheet((b"32", 32), (b"16", 16), (b"16", 16));
     assert_eq!(rt; page.text().len(), 2_329);
-    let sheet = Sheet::read(page.text())?;
-    assert_eq!(rt; sheet.names.count(), 32);
-    for cue in 0..32 {
-        assert_eq!(rt; sheet.names.name(cue), Some(long_name(cue).as_slice()));
-        assert_eq!(rt; sheet.names.cue(&long_name(cue)), Some(cue));
-        let place = sheet
-            .names
-            .field(cue)
-            .map(|field| (field.line(), field.at()));
-        let (line, at) = (u32::from(cue), usize::from(cue) * 17);
-        assert_eq!(rt; place, Some((line + 2, at + 8)));
-    }
-    for draft in [&sheet.left, &sheet.right] {
-        assert_eq!(rt; (draft.cues(), draft.rules()), (32, 16));
-        for i in 0..16 {
-            let expected: Terms = (19, i, 31_u8.saturating_sub(i), 0);
-            assert_eq!(rt; draft.rule(i).map(terms_of), Some(expected));
-        }
-    }
-    Ok(())
+    sheet_holds(&rt, page.text(), &NAMES[..32], &TERMS, &TERMS)
 }
 
 // A line of the sheet with three rules a side, and what may stand there as well. No rule is about the last cue.
@@ -152,8 +172,8 @@ const ACCEPTED: [(u32, &[u8]); 15] = [
 
 #[test]
 fn lines_in_form_are_accepted(rt: HostRuntime) {
-    for (line, text) in ACCEPTED {
-        try_line(&rt, line, text, None);
+    for (line, text) in &ACCEPTED {
+        try_line(&rt, *line, text, None);
     }
 }
 
@@ -221,23 +241,30 @@ const PLACES: [(u32, &[u8], &[u8], &[Bytes]); 29] = [
     (6, b"absence FLY ", b"00", &[(b"123456789", Some(10))]),
 ];
 
-// Tries bytes of seven bits, but no line end, and some others.
-fn try_bytes(rt: &impl Abort, place: (u32, &[u8], &[u8], &[Bytes])) {
-    let (line, front, back, some) = place;
-    let bytes = (0..b'\n').chain(11..=129).chain([176, 193, 225, 255]);
-    for byte in bytes {
-        let expected = match some.iter().find(|(bytes, _)| bytes.contains(&byte)) {
-            Some((_, number)) => *number,
-            None => Some(2),
-        };
-        try_line(rt, line, joined(front, &[byte], back).text(), expected);
+// What comes of a byte: what some bytes lead to, the first that have it, or else 2.
+fn led_to(some: &[Bytes], byte: u8) -> Option<u8> {
+    for (bytes, number) in some {
+        if bytes.contains(&byte) {
+            return *number;
+        }
+    }
+    Some(2)
+}
+
+// Tries each byte but the line end.
+fn try_bytes(rt: &impl Abort, line: u32, front: &[u8], back: &[u8], some: &[Bytes]) {
+    for byte in 0..=255 {
+        if byte != b'\n' {
+            let text = joined(front, &[byte], back);
+            try_line(rt, line, text.text(), led_to(some, byte));
+        }
     }
 }
 
 #[test]
 fn every_byte_is_tried_in_every_kind_of_field(rt: HostRuntime) {
-    for place in PLACES {
-        try_bytes(&rt, place);
+    for (line, front, back, some) in &PLACES {
+        try_bytes(&rt, *line, front, back, some);
     }
 }
 
@@ -267,10 +294,10 @@ fn try_nearly(rt: &impl Abort, word: &[u8]) {
 
 #[test]
 fn nearly_words_are_no_words(rt: HostRuntime) {
-    for (word, _) in WORDS {
+    for (word, _) in &WORDS {
         try_nearly(&rt, word);
     }
-    for word in [b"cues".as_slice(), b"left", b"right"] {
-        try_nearly(&rt, word);
-    }
+    try_nearly(&rt, b"cues");
+    try_nearly(&rt, b"left");
+    try_nearly(&rt, b"right");
 }

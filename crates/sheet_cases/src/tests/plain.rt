@@ -89,13 +89,11 @@ impl<'a> Reading<'a> {
                 if self.names.contains(name) {
                     return Some(4);
                 }
-                let free = self
-                    .names
-                    .iter()
-                    .position(|own| own.is_empty())
-                    .unwrap_or(32);
-                if let Some(place) = self.names.get_mut(free) {
-                    *place = name;
+                for place in &mut self.names {
+                    if place.is_empty() {
+                        *place = name;
+                        break;
+                    }
                 }
                 self.due = self.due.saturating_sub(1);
                 None
@@ -110,10 +108,16 @@ impl<'a> Reading<'a> {
         if !consists(word, b"abcdefghijklmnopqrstuvwxyz-") {
             return Some(2);
         }
-        let Some((_, takes)) = WORDS.iter().find(|(own, _)| own == word) else {
-            return Some(5);
-        };
-        let refused = match (takes, fields) {
+        self.due = self.due.saturating_sub(1);
+        match takes_of(word) {
+            None => Some(5),
+            Some(takes) => self.arguments(takes, fields),
+        }
+    }
+
+    // Takes the fields behind the word of a template.
+    fn arguments(&self, takes: Takes, fields: &[&[u8]]) -> Option<u8> {
+        match (takes, fields) {
             (Takes::NameAndCount, [name, n]) if is_name(name) => match decimal(n) {
                 None => Some(2),
                 Some(_) if !self.names.contains(name) => Some(6),
@@ -129,15 +133,28 @@ impl<'a> Reading<'a> {
                 }
             }
             _ => Some(2),
-        };
-        self.due = self.due.saturating_sub(1);
-        refused
+        }
     }
+}
+
+// What the template of a word takes.
+fn takes_of(word: &[u8]) -> Option<Takes> {
+    for (own, takes) in &WORDS {
+        if *own == word {
+            return Some(*takes);
+        }
+    }
+    None
 }
 
 // Whether a text has some bytes, and these alone.
 fn consists(text: &[u8], bytes: &[u8]) -> bool {
-    !text.is_empty() && text.iter().all(|b| bytes.contains(b))
+    for b in text {
+        if !bytes.contains(b) {
+            return false;
+        }
+    }
+    !text.is_empty()
 }
 
 // Whether a text has the form of a name.
