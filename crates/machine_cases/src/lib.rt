@@ -20,4 +20,6 @@ pub fn rehearse(table: Table, calls: &[u8]) -> Closed<Table>
 }
 
 #[cfg(test)]
+mod printing;
+#[cfg(test)]
 mod tests;

@@ -3,4 +3,6 @@
 #![tactic(auto)]
 
 #[cfg(test)]
+mod printing;
+#[cfg(test)]
 mod tests;
