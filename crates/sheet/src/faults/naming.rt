@@ -66,6 +66,8 @@ impl From<DraftRefusal> for Refusal {
 impl fmt::Display for Layer {
     ghost output = { λ l. Some (layer_word l) };
 
+    ghost styled_output = { λ l _. Some (layer_word l) };
+
     fn fmt<W: fmt::Write>(&self, f: &mut fmt::Formatter<W>) -> fmt::Result {
         f.write_str(match self {
             Layer::Reader => "reader",
@@ -76,6 +78,8 @@ impl fmt::Display for Layer {
 
 impl fmt::Display for ReaderRefusal {
     ghost output = { λ r. Some (reader_words r) };
+
+    ghost styled_output = { λ r _. Some (reader_words r) };
 
     fn fmt<W: fmt::Write>(&self, f: &mut fmt::Formatter<W>) -> fmt::Result {
         f.write_str(match self {
