@@ -68,4 +68,5 @@ b Choice e n = told_by Choice n (B ∷ []) (λ h. cc)
 b t e n = told_by t n (A ∷ B ∷ []) (λ h. cc)
 
 pub takes_what_it_needs : (t : Template) → TakesWhatItNeeds t
+unfolding TakesWhatItNeeds
 takes_what_it_needs t = record { no_count = no_count t; no_b = no_b t; count = count t; b = b t }

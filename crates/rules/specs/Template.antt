@@ -75,10 +75,13 @@ without_b (A ∷ w) = A ∷ without_b w
 without_b (B ∷ w) = Other ∷ without_b w
 without_b (Other ∷ w) = Other ∷ without_b w
 
--- A template takes just those arguments on which it hangs when it holds: a count or a B that it lacks makes no difference, and one
--- that it takes makes one.
-pub record TakesWhatItNeeds (t : Template) : Type 0 where
+-- What a template lacks makes no difference to when it holds, and what it takes makes one.
+pub record MakesADifference (t : Template) : Type 0 where
   pub no_count : (arguments_of t ≡ CueAndCount → ⊥) → (m n : ℕ) (w : Word) → Holds t m w ↔ Holds t n w
   pub no_b : (arguments_of t ≡ TwoCues → ⊥) → (n : ℕ) (w : Word) → Holds t n (without_b w) ↔ Holds t n w
   pub count : arguments_of t ≡ CueAndCount → (w : Word) × (Holds t 1 w ↔ Holds t 2 w → ⊥)
   pub b : arguments_of t ≡ TwoCues → (n : ℕ) → (w : Word) × (Holds t n (without_b w) ↔ Holds t n w → ⊥)
+
+-- A theorem that `arguments` carries: a template takes just those arguments on which it hangs when it holds.
+unfoldable pub TakesWhatItNeeds : Template → Type 0
+TakesWhatItNeeds t = MakesADifference t
