@@ -5,13 +5,14 @@ use std::io;
 use std::io::{ErrorKind, Read, Write};
 use std::process::Abort;
 
-// A reader that hands out a text a few bytes at a time, and is interrupted before each time. Behind the text it fails, if it is to.
+// A reader that hands out a text a few bytes at a time, and is interrupted before each time. Behind the text it fails in this way, if
+// it is to.
 #[derive(Drop)]
 struct Slow<'a> {
     text: &'a [u8],
     pace: usize,
     interrupted: bool,
-    fails: bool,
+    fails: Option<ErrorKind>,
 }
 
 impl Read for Slow<'_> {
@@ -20,8 +21,8 @@ impl Read for Slow<'_> {
         if self.interrupted {
             return Err(ErrorKind::Interrupted.into());
         }
-        if self.text.is_empty() && self.fails {
-            return Err(ErrorKind::ConnectionReset.into());
+        if let (true, Some(kind)) = (self.text.is_empty(), self.fails) {
+            return Err(kind.into());
         }
         let count = self.pace.min(buffer.len()).min(self.text.len());
         let (given, rest) = self.text.split_at(count);
@@ -96,13 +97,13 @@ fn steady(text: &[u8], pace: usize) -> Slow<'_> {
         text,
         pace,
         interrupted: false,
-        fails: false,
+        fails: None,
     }
 }
 
-fn failing(text: &[u8], pace: usize) -> Slow<'_> {
+fn failing(text: &[u8], pace: usize, kind: ErrorKind) -> Slow<'_> {
     Slow {
-        fails: true,
+        fails: Some(kind),
         ..steady(text, pace)
     }
 }
@@ -122,19 +123,38 @@ fn a_long_sheet_is_not_read_to_its_end(rt: HostRuntime) {
     for length in [16_385, 20_000] {
         let text = long.get(..length).unwrap_or(&[]);
         try_answer(&rt, steady(text, 5000), 64, true, b"refused 1 0 reader\n");
-        try_answer(&rt, failing(text, 5000), 64, true, b"refused 1 0 reader\n");
+        let broken = failing(text, 5000, ErrorKind::ConnectionReset);
+        try_answer(&rt, broken, 64, true, b"refused 1 0 reader\n");
     }
     let text = long.get(..16_384).unwrap_or(&[]);
     try_answer(&rt, steady(text, 5000), 64, true, b"refused 2 1 reader\n");
-    try_answer(&rt, failing(text, 5000), 64, false, b"");
+    let broken = failing(text, 5000, ErrorKind::ConnectionReset);
+    try_answer(&rt, broken, 64, false, b"");
+}
+
+// It asks as often as it must: here more than 32,768 times, every other time in vain.
+#[test]
+fn a_long_sheet_may_come_byte_by_byte(rt: HostRuntime) {
+    let long = [b'A'; 16_385];
+    try_answer(&rt, steady(&long, 1), 64, true, b"refused 1 0 reader\n");
+    let text = long.get(..16_384).unwrap_or(&[]);
+    try_answer(&rt, steady(text, 1), 64, true, b"refused 2 1 reader\n");
 }
 
 // A sheet that breaks off because reading fails is not answered, not even where a whole one stands there.
 #[test]
 fn a_sheet_that_cannot_be_read_is_not_answered(rt: HostRuntime) {
-    for length in [0, 1, 20, 44, 45] {
-        let text = SHEET.get(..length).unwrap_or(&[]);
-        try_answer(&rt, failing(text, 8), 64, false, b"");
+    let kinds = [
+        ErrorKind::ConnectionReset,
+        ErrorKind::WouldBlock,
+        ErrorKind::TimedOut,
+        ErrorKind::UnexpectedEof,
+    ];
+    for kind in kinds {
+        for length in [0, 1, 20, 44, 45] {
+            let text = SHEET.get(..length).unwrap_or(&[]);
+            try_answer(&rt, failing(text, 8, kind), 64, false, b"");
+        }
     }
 }
 

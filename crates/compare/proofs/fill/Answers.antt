@@ -1,4 +1,4 @@
-use Rattle.std.proofs.Common.{rules, ◌-◌, length}
+use Rattle.std.proofs.Common.{rules, ◌-◌, length, arith}
 use Rattle.compare.proofs.Buffered.{more_read, none_read}
 use Rattle.compare.proofs.fill.Goals as goal
 use Rattle.compare.proofs.fill.Goals.{in-Ok, in-Err}
@@ -11,3 +11,9 @@ loop-preserved g c =
       | in-Ok w ↦ (Prim.search rules, Prim.search rules, rw w.filled-is (more_read _ _ _ c.loop.filled room c.loop.buffer c.read.new.buf here so_far w.in-Ok.count w.in-Ok.ensures.bound.0 w.in-Ok.ensures.bytes.0))
       | in-Err w ↦ (Prim.search rules, Prim.search rules, rw w.filled-is (none_read _ _ _ c.loop.filled room c.loop.buffer c.read.new.buf here so_far w.in-Err.ensures.bytes))
     ]
+
+pub returns-in-Err-2-clause-failed : goal.returns-in-Err-2-clause-failed
+returns-in-Err-2-clause-failed g c =
+    let (here, long, so_far) = c.loop.invariant in
+    let room = length c.loop.buffer - c.loop.filled in
+    (c.loop.filled, omega (arith, here, long), none_read _ _ _ c.loop.filled room c.loop.buffer c.read.new.buf here so_far c.in-Err-2.ensures.bytes)
