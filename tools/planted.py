@@ -3,7 +3,7 @@
 
     tools/planted.py try COPY CRATE..    plants them in the copy COPY, which is made or brought up to date, and says of each
                                          where it is refused; the last line counts those that did not end as their list says
-    tools/planted.py write COPY CRATE..  the same, and writes where into the blocks that do not say it yet
+    tools/planted.py write COPY CRATE..  plants only those whose block does not say yet where, and writes it there
     tools/planted.py table               prints the tables of docs/PROMISES.md: every bug of the lists
 
 A list is blocks with a blank line between; a line that begins with # is not read. A block's lines:
@@ -179,14 +179,14 @@ def try_all(copy, crates, writes=False):
     bring(copy)
     odd = 0
     for crate in crates:
-        bugs = bugs_of(crate)
+        bugs = [it for it in bugs_of(crate) if not (writes and (it.falls or it.stays))]
         for bug in bugs:
             bug.changed(f"{HERE}/crates/{crate}")
         proved = judge_by_proof(copy, crate, [it for it in bugs if not it.tried])
         run = ((it, *judge_by_running(copy, crate, it)) for it in bugs if it.tried)
         found = {}
         for bug, place, told in [*proved, *run]:
-            if writes and not bug.falls and not bug.stays and place.upper() != place:
+            if writes and place.upper() != place:
                 found[bug.name] = bug.falls = place
             is_so = place == "NOT REFUSED" if bug.stays else place == bug.falls
             odd += not is_so
