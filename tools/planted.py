@@ -154,7 +154,7 @@ def judge_by_running(copy, crate, bug):
             told = ran.returncode != 0
         elif what[0] == "cases":
             ran = subprocess.run([f"{copy}/.ci/compare"], capture_output=True, text=True)
-            told = "not as expected" in ran.stdout
+            told = re.search(r"^compare (?!.*(as expected|: \d+ cases)$)", ran.stdout, re.M) is not None
         else:
             given = open(f"{folder}/stdin", "rb") if os.path.exists(f"{folder}/stdin") else subprocess.DEVNULL
             ran = subprocess.run(["rt", "run"], cwd=folder, stdin=given, capture_output=True, text=True)
