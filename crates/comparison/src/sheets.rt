@@ -1,5 +1,4 @@
 //! From the bytes of a sheet to its outcome.
-ghost use Rattle.std.specs.Prelude.{◌≡◌};
 ghost use Rattle.sheet.specs.Reading.{Holds};
 ghost use Rattle.sheet.specs.Sheet.{WellFormed};
 ghost use Rattle.comparison.specs.Outcome.{ReportOf, RefusedByItsFault, ReportedAsWritten, OutcomeOf};
