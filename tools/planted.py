@@ -74,12 +74,16 @@ def bugs_of(crate):
 
 def bring(copy):
     """Makes the copy, or brings it up to date; what was built there stays."""
+    apart = (".git", "out", "must-fail", "planted")
     for root, folders, files in os.walk(HERE):
-        folders[:] = [it for it in folders if it not in (".git", "out", "must-fail", "planted")]
+        folders[:] = [it for it in folders if it not in apart]
         to = f"{copy}/{os.path.relpath(root, HERE)}"
         os.makedirs(to, exist_ok=True)
         for one in os.listdir(to):
-            if one not in files and os.path.isfile(f"{to}/{one}"):
+            if os.path.isdir(f"{to}/{one}"):
+                if one not in folders and one not in apart:
+                    shutil.rmtree(f"{to}/{one}")
+            elif one not in files:
                 os.remove(f"{to}/{one}")
         for one in files:
             old, new = f"{to}/{one}", f"{root}/{one}"
