@@ -194,7 +194,7 @@ const MANY_OR_NONE: Bytes = (b"056789", Some(10));
 
 // A line, what stands there before a byte and behind it, and what comes of some bytes, the first that fits. All other bytes are
 // refused with 2.
-const PLACES: [(u32, &[u8], &[u8], &[Bytes]); 29] = [
+const PLACES: [(u32, &[u8], &[u8], &[Bytes]); 31] = [
     (1, b"cu", b"s 3", &[(b"e", None)]),
     (1, b"cues", b"3", &[SPACE]),
     (1, b"cues 3", b"9", &[MANY]),
@@ -239,6 +239,14 @@ const PLACES: [(u32, &[u8], &[u8], &[Bytes]); 29] = [
         &[(b"1", None), (b"23456789", Some(10))],
     ),
     (6, b"absence FLY ", b"00", &[(b"123456789", Some(10))]),
+    (7, b"exactly FLY 100", b"", &[]),
+    // 6 comes before 10
+    (
+        8,
+        b"absence FL",
+        b" 0",
+        &[(b"Y", Some(10)), (NAME, Some(6))],
+    ),
 ];
 
 // What comes of a byte: what some bytes lead to, the first that have it, or else 2.
