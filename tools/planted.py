@@ -200,22 +200,41 @@ def try_all(copy, crates, writes=False):
     return odd
 
 
+WAYS = ("a function", "an answer", "tests", "a run", "the cases", "nothing")
+
+
+def way(bug):
+    """Returns in which column a bug is counted."""
+    if bug.stays:
+        return "nothing"
+    named = {"tests": "tests", "run": "a run", "cases": "the cases"}
+    return named.get(bug.falls, "an answer" if bug.falls.startswith("proofs/") else "a function")
+
+
+def place_in_words(place):
+    """Returns a place as the tables have it: of answers the function whose they are."""
+    found = re.fullmatch(r"proofs/(?:[a-z_]+/)*(?:([A-Z]\w*)/)?(\w+)/Answers\.antt", place)
+    if not found:
+        return f"`{place}`" if place.startswith("proofs/") else place
+    return f"{found[1] + ': ' if found[1] else ''}{found[2]}, in its answers"
+
+
 def table(crates):
-    """Prints the bugs of the lists as tables."""
-    for crate in crates:
-        bugs = bugs_of(crate)
-        if not bugs:
-            continue
+    """Prints the bugs of the lists as tables: how many ended in which way, and for each crate where."""
+    lists = {it: bugs_of(it) for it in crates}
+    print("| Crate | Planted |", " | ".join(f"Told by {it}" for it in WAYS[:5]), "| By nothing |\n|" + "---|" * 8)
+    for crate, bugs in lists.items():
+        print(f"| `{crate}` | {len(bugs)} |", " | ".join(str(sum(way(bug) == it for bug in bugs) or "–") for it in WAYS), "|")
+    every = [bug for bugs in lists.values() for bug in bugs]
+    print(f"| all | {len(every)} |", " | ".join(str(sum(way(bug) == it for bug in every)) for it in WAYS), "|")
+    for crate, bugs in lists.items():
         rows = {}
         for bug in bugs:
-            if not bug.stays:
-                rows.setdefault(bug.falls, []).append(bug.name.replace("_", " "))
-        print(f"\n### `{crate}`\n\n| Refused at | Bugs |\n|---|---|")
+            at = f"nothing: {bug.stays}" if bug.stays else place_in_words(bug.falls)
+            rows.setdefault(at, []).append(bug.name.replace("_", " "))
+        print(f"\n### `{crate}`\n\n| Told at | Bugs |\n|---|---|")
         for place, names in rows.items():
             print(f"| {place} | {'; '.join(names)} |")
-        for bug in bugs:
-            if bug.stays:
-                print(f"| nothing: {bug.stays} | {bug.name.replace('_', ' ')} |")
 
 
 if __name__ == "__main__":
