@@ -155,7 +155,8 @@ def judge_by_running(copy, crate, bug):
         where_run = f"{copy}/crates/{what[1]}" if len(what) > 1 else folder
         if what[0] == "tests":
             ran = subprocess.run(["rt", "try", "--test"], cwd=where_run, capture_output=True, text=True)
-            told = ran.returncode != 0
+            # (6: it did not come to an end in its time, so no test has told anything)
+            told = ran.returncode not in (0, 6)
         elif what[0] == "cases":
             ran = subprocess.run([f"{copy}/.ci/compare"], capture_output=True, text=True)
             told = re.search(r"^compare (?!.*(as expected|: \d+ cases)$)", ran.stdout, re.M) is not None
