@@ -12,7 +12,7 @@ A list is blocks with a blank line between; a line that begins with # is not rea
     file: src/lib.rt         and then pairs of old: and new:, as in a must-fail edit; more files may follow
     tried: tests             where tests judge it and no proof: `rt try --test` in this crate, or `tried: tests CRATE`
     tried: run               where a run of the program judges it: what it writes of its stdin is not its stdout
-    tried: cases             where the sheets that the gate runs `compare` on judge it
+    tried: cases             where what the gate runs of `compare` and `play` judges it (.ci/programs)
     falls: WHERE             the function whose contract refuses it, as try says it, or what test or run
     stays: REASON            in place of falls, where nothing refuses it: why that is right
 """
@@ -158,8 +158,10 @@ def judge_by_running(copy, crate, bug):
             # (6: it did not come to an end in its time, so no test has told anything)
             told = ran.returncode not in (0, 6)
         elif what[0] == "cases":
-            ran = subprocess.run([f"{copy}/.ci/compare"], capture_output=True, text=True)
-            told = re.search(r"^compare (?!.*(as expected|: \d+ cases)$)", ran.stdout, re.M) is not None
+            if os.path.exists(f"{folder}/out/{crate}"):
+                os.remove(f"{folder}/out/{crate}")
+            ran = subprocess.run([f"{copy}/.ci/programs"], capture_output=True, text=True)
+            told = re.search(r"^(compare|play) (?!.*(as expected|: \d+ cases)$)", ran.stdout, re.M) is not None
         else:
             given = open(f"{folder}/stdin", "rb") if os.path.exists(f"{folder}/stdin") else subprocess.DEVNULL
             ran = subprocess.run(["rt", "run"], cwd=folder, stdin=given, capture_output=True, text=True)
