@@ -11,7 +11,8 @@ A list is blocks with a blank line between; a line that begins with # is not rea
     bug: a_name_that_says_what_is_turned
     file: src/lib.rt         and then pairs of old: and new:, as in a must-fail edit; more files may follow
     tried: tests             where tests judge it and no proof: `rt try --test` in this crate, or `tried: tests CRATE`
-    tried: run               where a run of the program judges it: what it writes of its stdin is not its stdout
+    tried: run               where a run of the program judges it: what it writes of its stdin is not its stdout; or
+                             `tried: run CRATE`
     tried: cases             where what the gate runs of `compare` and `play` judges it (.ci/programs)
     falls: WHERE             the function whose contract refuses it, as try says it, or what test or run
     stays: REASON            in place of falls, where nothing refuses it: why that is right
@@ -144,6 +145,12 @@ def judge_by_proof(copy, crate, bugs):
         yield bug, *(where(rest, bug, folder) if kind.startswith("refused") and PLACE.search(rest) else (kind, rest[:200]))
 
 
+def drop(path):
+    """Removes a built program, so that it is built anew."""
+    if os.path.exists(path):
+        os.remove(path)
+
+
 def judge_by_running(copy, crate, bug):
     """Returns whether tests, the program's own run or the cases of sheets tell the bug, and what was said."""
     folder, what = f"{copy}/crates/{crate}", bug.tried.split()
@@ -152,20 +159,20 @@ def judge_by_running(copy, crate, bug):
     try:
         for at, text in texts.items():
             open(f"{folder}/{at}", "w", encoding="utf-8").write(text)
-        where_run = f"{copy}/crates/{what[1]}" if len(what) > 1 else folder
+        at = f"{copy}/crates/{what[1]}" if len(what) > 1 else folder
         if what[0] == "tests":
-            ran = subprocess.run(["rt", "try", "--test"], cwd=where_run, capture_output=True, text=True)
+            ran = subprocess.run(["rt", "try", "--test"], cwd=at, capture_output=True, text=True)
             # (6: it did not come to an end in its time, so no test has told anything)
             told = ran.returncode not in (0, 6)
         elif what[0] == "cases":
-            if os.path.exists(f"{folder}/out/{crate}"):
-                os.remove(f"{folder}/out/{crate}")
+            drop(f"{folder}/out/{crate}")
             ran = subprocess.run([f"{copy}/.ci/programs"], capture_output=True, text=True)
             told = re.search(r"^(compare|play) (?!.*(as expected|: \d+ cases)$)", ran.stdout, re.M) is not None
+            drop(f"{folder}/out/{crate}")
         else:
-            given = open(f"{folder}/stdin", "rb") if os.path.exists(f"{folder}/stdin") else subprocess.DEVNULL
-            ran = subprocess.run(["rt", "run"], cwd=folder, stdin=given, capture_output=True, text=True)
-            told = ran.stdout != open(f"{folder}/stdout", encoding="utf-8").read()
+            given = open(f"{at}/stdin", "rb") if os.path.exists(f"{at}/stdin") else subprocess.DEVNULL
+            ran = subprocess.run(["rt", "run"], cwd=at, stdin=given, capture_output=True, text=True)
+            told = ran.stdout != open(f"{at}/stdout", encoding="utf-8").read()
         return what[0] if told else "NOT REFUSED", (ran.stdout + ran.stderr)[-200:].strip()
     finally:
         for at, text in kept.items():
