@@ -232,7 +232,7 @@ def place_in_words(place):
 def table(crates):
     """Prints the bugs of the lists as tables: how many ended in which way, and for each crate where."""
     lists = {it: bugs_of(it) for it in crates}
-    print("| Crate | Planted |", " | ".join(f"Told by {it}" for it in WAYS[:5]), "| By nothing |\n|" + "---|" * 8)
+    print("| Crate | Planted |", " | ".join(f"Refused by {it}" for it in WAYS[:5]), "| By nothing |\n|" + "---|" * 8)
     for crate, bugs in lists.items():
         print(f"| `{crate}` | {len(bugs)} |", " | ".join(str(sum(way(bug) == it for bug in bugs) or "–") for it in WAYS), "|")
     every = [bug for bugs in lists.values() for bug in bugs]
@@ -242,7 +242,7 @@ def table(crates):
         for bug in bugs:
             at = f"nothing: {bug.stays}" if bug.stays else place_in_words(bug.falls)
             rows.setdefault(at, []).append(bug.name.replace("_", " "))
-        print(f"\n### `{crate}`\n\n| Told at | Bugs |\n|---|---|")
+        print(f"\n### `{crate}`\n\n| Refused by | Bugs |\n|---|---|")
         for place, names in rows.items():
             print(f"| {place} | {'; '.join(names)} |")
 
