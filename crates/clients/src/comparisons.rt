@@ -1,0 +1,1 @@
+//! Uses of a comparison of two books, and of what answers a sheet.

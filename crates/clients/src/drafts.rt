@@ -1,0 +1,1 @@
+//! Uses of drafts and books.

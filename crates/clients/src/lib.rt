@@ -1,0 +1,12 @@
+//! Clients: small functions, each a real use of the libraries, proved from their public contracts alone. Each needs a promise
+//! that no library above needs, so a definition that loses what it says is told by a client that is no longer proved.
+
+#![tactic(auto)]
+
+mod benches;
+mod comparisons;
+mod drafts;
+mod sheets;
+mod tables;
+mod templates;
+mod watches;

@@ -1,0 +1,1 @@
+//! Uses of rules and their templates.

@@ -1,0 +1,1 @@
+//! Uses of watches, and of what any machine says of a show.
