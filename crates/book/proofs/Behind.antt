@@ -29,7 +29,7 @@ states_below r s (x, e) = rw (sym e) ((rule_states x).within (word_of (terms x) 
 
 -- At a position to which a show leads, the part of a rule is the state to which the show leads it; so the same holds after each
 -- continuation, and the state is one of the rule's.
-module _ (b : Book) (p i : ℕ) (s : Show) (cued : Cued b.cues s) (leads : p ≡ leads_to (book_meaning b) s) where
+module _ (b : Book) (p i : ℕ) (s : Show) (cued : Cued b.cues s) (leads : p ≡ leads_to (book_meaning b).steps s) where
   part_is : (r : Terms) → RuleAt (book_content b) i r → part p i ≡ state_after r s
   part_is r there = ap (λ q. part q i) leads ∙ part_after b.cues b.held i r there s cued
 

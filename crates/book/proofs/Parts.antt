@@ -121,18 +121,18 @@ module _ (cues : ℕ) (h : Held) where
   }
 
   -- A show of the book's cues leads each rule's part to the state to which it leads the rule.
-  pub part_after : (i : ℕ) (r : Terms) → RuleAt content i r → (s : Show) → Cued cues s → part (leads_to m s) i ≡ state_after r s
-  part_after i r there = by_last (λ s. Cued cues s → part (leads_to m s) i ≡ state_after r s) (λ cued. moves_by_parts.start i) more
+  pub part_after : (i : ℕ) (r : Terms) → RuleAt content i r → (s : Show) → Cued cues s → part (leads_to m.steps s) i ≡ state_after r s
+  part_after i r there = by_last (λ s. Cued cues s → part (leads_to m.steps s) i ≡ state_after r s) (λ cued. moves_by_parts.start i) more
     where
-      more : (s : Show) (q : ℕ) → (Cued cues s → part (leads_to m s) i ≡ state_after r s) → Cued cues (s ++ q ∷ []) → part (leads_to m (s ++ q ∷ [])) i ≡ state_after r (s ++ q ∷ [])
+      more : (s : Show) (q : ℕ) → (Cued cues s → part (leads_to m.steps s) i ≡ state_after r s) → Cued cues (s ++ q ∷ []) → part (leads_to m.steps (s ++ q ∷ [])) i ≡ state_after r (s ++ q ∷ [])
       more s q before cued =
           let (front, back) = cued_parts cues s (q ∷ []) cued in
-          ap (λ k. part k i) (fold-append m.steps.next 0 s (q ∷ [])) ∙ moved_part (leads_to m s) q i r back.0 there
+          ap (λ k. part k i) (fold-append m.steps.next 0 s (q ∷ [])) ∙ moved_part (leads_to m.steps s) q i r back.0 there
           ∙ ap (λ d. step_of r d (letter_of r q)) (before front) ∙ sym (led_further r s (q ∷ []))
 
   -- So the book allows such a show exactly when every rule holds of it.
   pub allows_what_holds : AllowsWhatHolds m content
   allows_what_holds s cued = (
-    λ closes i r there. (closes_where_it_holds r s).0 (rw (part_after i r there s cued) at (all_then_each (held_rules h) (leads_to m s) closes i r there)),
-    λ hold. each_then_all (held_rules h) (leads_to m s) (λ i r there. rw (part_after i r there s cued) ((closes_where_it_holds r s).1 (hold i r there))),
+    λ closes i r there. (closes_where_it_holds r s).0 (rw (part_after i r there s cued) at (all_then_each (held_rules h) (leads_to m.steps s) closes i r there)),
+    λ hold. each_then_all (held_rules h) (leads_to m.steps s) (λ i r there. rw (part_after i r there s cued) ((closes_where_it_holds r s).1 (hold i r there))),
   )

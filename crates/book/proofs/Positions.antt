@@ -32,9 +32,9 @@ module _ (cues : ℕ) (h : Held) where
   m = content_meaning content
 
   -- A show leaves the parts beyond the last rule at 0.
-  none_beyond : (i : ℕ) → length (held_rules h) ≤ i → (s : Show) → part (leads_to m s) i ≡ 0
-  none_beyond i past = by_last (λ s. part (leads_to m s) i ≡ 0) ((moves_by_parts cues h).start i)
-      (λ s q before. ap (λ p. part p i) (fold-append m.steps.next 0 s (q ∷ [])) ∙ (moves_by_parts cues h).keeps (leads_to m s) q i past ∙ before)
+  none_beyond : (i : ℕ) → length (held_rules h) ≤ i → (s : Show) → part (leads_to m.steps s) i ≡ 0
+  none_beyond i past = by_last (λ s. part (leads_to m.steps s) i ≡ 0) ((moves_by_parts cues h).start i)
+      (λ s q before. ap (λ p. part p i) (fold-append m.steps.next 0 s (q ∷ [])) ∙ (moves_by_parts cues h).keeps (leads_to m.steps s) q i past ∙ before)
 
   -- A rule does not tell two shows apart exactly when both lead it to one state.
   states_are : (i : ℕ) (r : Terms) → RuleAt content i r → StatesAre r.template r.n
@@ -43,11 +43,11 @@ module _ (cues : ℕ) (h : Held) where
   pub one_position : OnePosition m content
   one_position s t here also = (apart, one)
     where
-      apart : leads_to m s ≡ leads_to m t → NotToldApart content s t
+      apart : leads_to m.steps s ≡ leads_to m.steps t → NotToldApart content s t
       apart e i r there = ((states_are i r there).numbered.told_apart (word_of r s) (word_of r t)).0
           (sym (part_after cues h i r there s here) ∙ ap (λ p. part p i) e ∙ part_after cues h i r there t also)
 
-      same_part : NotToldApart content s t → (i : ℕ) → part (leads_to m s) i ≡ part (leads_to m t) i
+      same_part : NotToldApart content s t → (i : ℕ) → part (leads_to m.steps s) i ≡ part (leads_to m.steps t) i
       same_part same i = elim (cases_lt i (length (held_rules h))) [
         | inl low ↦
             let there = slice_get-get_or (held_rules h) i blank low in
@@ -56,5 +56,5 @@ module _ (cues : ℕ) (h : Held) where
         | inr past ↦ none_beyond i past s ∙ sym (none_beyond i past t)
       ]
 
-      one : NotToldApart content s t → leads_to m s ≡ leads_to m t
-      one same = same_parts (leads_to m s + leads_to m t) (leads_to m s) (leads_to m t) (omega arith) (omega arith) (same_part same)
+      one : NotToldApart content s t → leads_to m.steps s ≡ leads_to m.steps t
+      one same = same_parts (leads_to m.steps s + leads_to m.steps t) (leads_to m.steps s) (leads_to m.steps t) (omega arith) (omega arith) (same_part same)

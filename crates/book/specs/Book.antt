@@ -68,4 +68,4 @@ NotToldApart c s t = (i : ℕ) (r : Terms) → RuleAt c i r → Undivided r.temp
 
 -- The theorem of positions: two shows of the book's cues lead to one position exactly when no rule tells them apart.
 abbrev pub OnePosition : Meaning → Content → Type 0
-OnePosition m c = (s t : Show) → Cued c.cues s → Cued c.cues t → (leads_to m s ≡ leads_to m t) ↔ NotToldApart c s t
+OnePosition m c = (s t : Show) → Cued c.cues s → Cued c.cues t → (leads_to m.steps s ≡ leads_to m.steps t) ↔ NotToldApart c s t

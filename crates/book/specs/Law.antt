@@ -41,7 +41,7 @@ held_below : (h : Held) (p c : ℕ) → h.count ≤ most_rules → p < 2 ^ 64 �
 held_below h p c room low = rw (take-map terms h.count h.rules) (moved_below (take h.count h.rules) 16 p c (omega (arith, length-take h.count h.rules)) low)
 
 -- The laws of machines.
-pub lawful : (b : Book) → Lawful (book_meaning b)
+pub lawful : (b : Book) → Lawful (book_meaning b).steps
 lawful b = record {
   some = b.some_cues;
   few = b.few_cues;

@@ -48,7 +48,7 @@ ReadBehind answer c s i = MatchResult answer
 
 -- At every position to which a show of the book's cues leads, it is read as behind that show.
 unfoldable pub ReadBehindShows : Result (Value × ℕ) ReadingRefusal → Book → ℕ → ℕ → Type 0
-ReadBehindShows answer b p i = (s : Show) → Cued b.cues s → p ≡ leads_to (book_meaning b) s → ReadBehind answer (book_content b) s i
+ReadBehindShows answer b p i = (s : Show) → Cued b.cues s → p ≡ leads_to (book_meaning b).steps s → ReadBehind answer (book_content b) s i
 
 -- Two right readings of a state are the same.
 unfoldable pub OneReading : Type 0
@@ -67,7 +67,7 @@ WeighedBehind answer c s i q = MatchResult answer
 
 -- At every position to which a show of the book's cues leads, a cue is weighed as behind that show.
 unfoldable pub WeighedBehindShows : Result Bool ReadingRefusal → Book → ℕ → ℕ → ℕ → Type 0
-WeighedBehindShows answer b p i q = (s : Show) → Cued b.cues s → p ≡ leads_to (book_meaning b) s → WeighedBehind answer (book_content b) s i q
+WeighedBehindShows answer b p i q = (s : Show) → Cued b.cues s → p ≡ leads_to (book_meaning b).steps s → WeighedBehind answer (book_content b) s i q
 
 -- While a response is pending, which is while it does not hold, one more A is not relevant.
 unfoldable pub SecondANotRelevant : Type 0

@@ -10,22 +10,22 @@ use Rattle.search.specs.Rank.{FirstInRank}
 use Rattle.search.specs.Units.{show_after, TallyTells}
 use Rattle.search.specs.Calls.{Advance, Tally, AskVerdict, WriteShow, Worked, Tallied, Told, Written, Strategy}
 use Rattle.bench.specs.declared.benches.Bench.{Bench}
-use Rattle.bench.specs.Cells.{limit}
+use Rattle.bench.specs.declared.cells.TheConstants.{LIMIT}
 use Rattle.bench.specs.Bench.{Called, untouched, then_called, TellsTheTruth, StaysUnlike}
 use Rattle.comparison.specs.declared.deciding.Decision.{Decision}
 use Rattle.comparison.specs.Deciding.{Decided, NotCompared}
 
 -- The only call before the others.
 abbrev grant_all : Strategy
-grant_all answers = Advance limit
+grant_all answers = Advance LIMIT
 
 -- What numbers tell is told of the same numbers.
 told_alike : (l r : Meaning) (shows : ℕ → Show) (v v' : Verdict) (n n' m m' : ℕ) → v ≡ v' → n ≡ n' → m ≡ m'
-    → FirstInRank l r m' shows × TallyTells l r limit shows n' m' v' → FirstInRank l r m shows × TallyTells l r limit shows n m v
+    → FirstInRank l.steps r.steps m' shows × TallyTells l r LIMIT shows n' m' v' → FirstInRank l.steps r.steps m shows × TallyTells l r LIMIT shows n m v
 told_alike l r shows v v' n n' m m' e f g told = rw (e, f, g) told
 
 module _ {L R : Type 0} (lefts : L → Meaning) (rights : R → Meaning) (b next : Bench L R) (d : Decision L R) (n : ℕ) (before now' : List ℕ)
-    (first : Called lefts rights (Advance limit) (Worked n) b next) (told : Called lefts rights AskVerdict (Told d.verdict) next next)
+    (first : Called lefts rights (Advance LIMIT) (Worked n) b next) (told : Called lefts rights AskVerdict (Told d.verdict) next next)
     (tallied : Called lefts rights Tally (Tallied d.tally.worked d.tally.recorded) next next)
     (shown : Called lefts rights (WriteShow before) (Written d.length now') next next) where
   abbrev l : Meaning
@@ -39,13 +39,13 @@ module _ {L R : Type 0} (lefts : L → Meaning) (rights : R → Meaning) (b next
       let here = truth.always grant_all _ _ next (then_called untouched first) in
       let (answer, when) = here.truly AskVerdict (Told d.verdict) next told in
       let (counts, ranked) = here.truly Tally (Tallied d.tally.worked d.tally.recorded) next tallied in
-      let true_one : d.verdict ≡ (after l r limit limit).verdict = cc in
-      let worked : d.tally.worked ≡ (after l r limit limit).worked = cc in
-      let recorded' : d.tally.recorded ≡ recorded (after l r limit limit) = cc in
-      let (first, tells) = told_alike l r (show_after l r limit limit) d.verdict _ d.tally.worked _ d.tally.recorded _ true_one worked recorded' (ranked.first, ranked.tells) in
+      let true_one : d.verdict ≡ (after l r LIMIT LIMIT).verdict = cc in
+      let worked : d.tally.worked ≡ (after l r LIMIT LIMIT).worked = cc in
+      let recorded' : d.tally.recorded ≡ recorded (after l r LIMIT LIMIT) = cc in
+      let (first, tells) = told_alike l r (show_after l r LIMIT LIMIT) d.verdict _ d.tally.worked _ d.tally.recorded _ true_one worked recorded' (ranked.first, ranked.tells) in
       record {
-        verdict = rw true_one (when.enough (le_refl limit));
-        tally = record { worked = worked; recorded = recorded'; shows = show_after l r limit limit; first = first; tells = tells };
+        verdict = rw true_one (when.enough (le_refl LIMIT));
+        tally = record { worked = worked; recorded = recorded'; shows = show_after l r LIMIT LIMIT; first = first; tells = tells };
         show = rw true_one (here.truly (WriteShow before) (Written d.length now') next shown);
       }
 

@@ -5,7 +5,7 @@ use Rattle.machine.specs.Show.{Show}
 use Rattle.search.specs.declared.states.Verdict.TheVariants as verdict
 use Rattle.search.specs.Truth.{FirstDifference, TooMany}
 use Rattle.search.proofs.OneTruth.{neither_later}
-use Rattle.bench.specs.Cells.{limit}
+use Rattle.bench.specs.declared.cells.TheConstants.{LIMIT}
 use Rattle.book.specs.Book.{AllowsWhatHolds}
 use Rattle.sheet.specs.Sheet.{Comparison}
 use Rattle.comparison.specs.declared.outcomes.Finding.{Finding}
@@ -44,10 +44,10 @@ module _ (s : Comparison) where
 
   module _ (lefts : AllowsWhatHolds (left_machine s) (left_book s)) (rights : AllowsWhatHolds (right_machine s) (right_book s)) where
     -- There are too many joint positions for the machines exactly when there are for the sheet.
-    too_many : TooMany (left_machine s) (right_machine s) limit → AreTooMany s
+    too_many : TooMany (left_machine s) (right_machine s) LIMIT → AreTooMany s
     too_many (more, first) = (more, record { shows = first.shows; first = first.first; none = λ i low d. first.none i low (divides_machines s lefts rights (first.shows i) (first.first.playable i low) d) })
 
-    machines_too_many : AreTooMany s → TooMany (left_machine s) (right_machine s) limit
+    machines_too_many : AreTooMany s → TooMany (left_machine s) (right_machine s) LIMIT
     machines_too_many (more, first) = (more, record { shows = first.shows; first = first.first; none = λ i low d. first.none i low (divides_books s lefts rights (first.shows i) (first.first.playable i low) d) })
 
     -- The first show that divides the machines is the first that divides the books.

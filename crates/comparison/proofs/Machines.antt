@@ -13,7 +13,7 @@ use Rattle.search.specs.declared.states.ShowRefusal.{ShowRefusal}
 use Rattle.search.specs.Calls.{Written}
 use Rattle.search.specs.Runs.{Shown, ShowTold}
 use Rattle.search.specs.Truth.{TrueVerdict, FirstDifference}
-use Rattle.bench.specs.Cells.{limit}
+use Rattle.bench.specs.declared.cells.TheConstants.{LIMIT}
 use Rattle.comparison.specs.declared.outcomes.Finding.{Finding}
 use Rattle.comparison.specs.declared.outcomes.Finding.TheVariants.{Equal, Left, Right, Full}
 use Rattle.comparison.specs.Finding.{MachinesFinding, IfShown, verdict_of}
@@ -42,22 +42,22 @@ in_front s told before now' fits (inr (short, e)) = absurd (omega arith)
 
 module _ (l r : Meaning) where
   -- A true verdict is neither open nor unlike.
-  pub decisive : (v : Verdict) → TrueVerdict l r limit v → (v ≡ verdict.Open → ⊥) × (v ≡ verdict.Unlike → ⊥)
+  pub decisive : (v : Verdict) → TrueVerdict l r LIMIT v → (v ≡ verdict.Open → ⊥) × (v ≡ verdict.Unlike → ⊥)
   decisive verdict.Open truth = let (s, first) = truth.otherwise (λ e. cc) (λ e. cc) in absurd (elim first.named [ inl a ↦ cc | inr b ↦ cc ])
   decisive verdict.Unlike truth = let (s, first) = truth.otherwise (λ e. cc) (λ e. cc) in absurd (elim first.named [ inl a ↦ cc | inr b ↦ cc ])
   decisive v truth = (λ e. cc, λ e. cc)
 
-  module _ (told : Result ℕ ShowRefusal) (before now' : List ℕ) (room : length before ≡ limit) where
+  module _ (told : Result ℕ ShowRefusal) (before now' : List ℕ) (room : length before ≡ LIMIT) where
     -- The show that the buffer holds, where a side is named.
     abbrev show : Show
     show = take (result_unwrap_or told 0) now'
 
-    first_told : (v : Verdict) → (v ≡ verdict.Left) ⊎ (v ≡ verdict.Right) → ShowTold l r limit v before (Written told now') → FirstDifference l r v show
+    first_told : (v : Verdict) → (v ≡ verdict.Left) ⊎ (v ≡ verdict.Right) → ShowTold l r LIMIT v before (Written told now') → FirstDifference l r v show
     first_told v side (inl (s, first, short, shown)) = rw (in_front s told before now' (omega arith) shown) first
     first_told v (inl e) (inr none) = absurd (none.0 e)
     first_told v (inr e) (inr none) = absurd (none.1 e)
 
-    pub found : (v : Verdict) (f : Finding) → TrueVerdict l r limit v → ShowTold l r limit v before (Written told now')
+    pub found : (v : Verdict) (f : Finding) → TrueVerdict l r LIMIT v → ShowTold l r LIMIT v before (Written told now')
         → verdict_of f ≡ v → IfShown f (λ t. t ≡ show) → MachinesFinding l r f
     found v Equal truth shown e is = truth.equal.0 (sym e)
     found v (Left t) truth shown e is = (rw (e, is) (first_told v (inl (sym e)) shown), λ many. let full = truth.full.1 many in absurd cc)

@@ -48,4 +48,4 @@ DividesBooks s t = OnlyLeft s t ⊎ OnlyRight s t
 -- whatever letters follow, be there a cue for them or not.
 abbrev pub JointPositions : Comparison → Type 0
 JointPositions s = (t u : Show) → IsShow s t → IsShow s u
-    → (jointly (left_machine s) (right_machine s) t ≡ jointly (left_machine s) (right_machine s) u) ↔ (NotToldApart (left_book s) t u × NotToldApart (right_book s) t u)
+    → (jointly (left_machine s).steps (right_machine s).steps t ≡ jointly (left_machine s).steps (right_machine s).steps u) ↔ (NotToldApart (left_book s) t u × NotToldApart (right_book s) t u)

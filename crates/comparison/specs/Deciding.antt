@@ -12,25 +12,25 @@ use Rattle.search.specs.Calls.{Written, verdict_word}
 use Rattle.search.specs.Truth.{TrueVerdict}
 use Rattle.search.specs.Units.{TallyTells}
 use Rattle.search.specs.Runs.{ShowTold}
-use Rattle.bench.specs.Cells.{limit}
+use Rattle.bench.specs.declared.cells.TheConstants.{LIMIT}
 use Rattle.comparison.specs.declared.deciding.Decision.{Decision}
 use Rattle.comparison.specs.declared.deciding.Tally.{Tally}
 
 -- A tally is that of the search of two machines with this verdict; and what its numbers tell, said of the first shows of the joint
 -- positions that it counts as recorded, which are the first in rank.
 pub record TallyOf (l r : Meaning) (v : Verdict) (t : Tally) : Type 0 where
-  pub worked : t.worked ≡ (after l r limit limit).worked
-  pub recorded : t.recorded ≡ recorded (after l r limit limit)
+  pub worked : t.worked ≡ (after l r LIMIT LIMIT).worked
+  pub recorded : t.recorded ≡ recorded (after l r LIMIT LIMIT)
   pub shows : ℕ → Show
-  pub first : FirstInRank l r t.recorded shows
-  pub tells : TallyTells l r limit shows t.worked t.recorded v
+  pub first : FirstInRank l.steps r.steps t.recorded shows
+  pub tells : TallyTells l r LIMIT shows t.worked t.recorded v
 
 -- Of machines with equally many cues: the verdict is the true one, the tally is that of the search, and the show found is the first
 -- that divides the machines. The buffer held the first bytes before, and holds the second now.
 pub record Decided {L R : Type 0} (l r : Meaning) (d : Decision L R) (before now' : List ℕ) : Type 0 where
-  pub verdict : TrueVerdict l r limit d.verdict
+  pub verdict : TrueVerdict l r LIMIT d.verdict
   pub tally : TallyOf l r d.verdict d.tally
-  pub show : ShowTold l r limit d.verdict before (Written d.length now')
+  pub show : ShowTold l r LIMIT d.verdict before (Written d.length now')
 
 -- Of machines with different cue counts: nothing is compared, and the buffer is as it was.
 pub record NotCompared {L R : Type 0} (d : Decision L R) (before now' : List ℕ) : Type 0 where

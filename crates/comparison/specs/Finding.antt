@@ -7,7 +7,7 @@ use Rattle.search.specs.declared.states.Verdict.{Verdict}
 use Rattle.search.specs.declared.states.Verdict.TheVariants as verdict
 use Rattle.search.specs.Rank.{NoLater, MoreThan, AtMost, FirstInRank}
 use Rattle.search.specs.Truth.{FirstDifference, AllEqual, TooMany}
-use Rattle.bench.specs.Cells.{limit}
+use Rattle.bench.specs.declared.cells.TheConstants.{LIMIT}
 use Rattle.sheet.specs.Sheet.{Comparison}
 use Rattle.comparison.specs.declared.outcomes.Finding.{Finding}
 use Rattle.comparison.specs.declared.outcomes.Finding.TheVariants.{Equal, Left, Right, Full}
@@ -34,13 +34,13 @@ module _ (l r : Meaning) where
   -- The show is the first that divides the machines, and the machine of this verdict allows it; and it is not so that there are too
   -- many joint positions and none of the first divides.
   abbrev pub IsFirst : Verdict → Show → Type 0
-  IsFirst v t = FirstDifference l r v t × (TooMany l r limit → ⊥)
+  IsFirst v t = FirstDifference l r v t × (TooMany l r LIMIT → ⊥)
 
   abbrev pub MachinesFinding : Finding → Type 0
-  MachinesFinding Equal = AllEqual l r limit
+  MachinesFinding Equal = AllEqual l r LIMIT
   MachinesFinding (Left t) = IsFirst verdict.Left t
   MachinesFinding (Right t) = IsFirst verdict.Right t
-  MachinesFinding Full = TooMany l r limit
+  MachinesFinding Full = TooMany l r LIMIT
 
 -- What comparing the two books of a sheet finds.
 module _ (s : Comparison) where
@@ -51,16 +51,16 @@ module _ (s : Comparison) where
   -- There are k joint positions that are the first in rank, and none of their first shows divides the books.
   pub record NoneOfTheFirstDivides (k : ℕ) : Type 0 where
     pub shows : ℕ → Show
-    pub first : FirstInRank (left_machine s) (right_machine s) k shows
+    pub first : FirstInRank (left_machine s).steps (right_machine s).steps k shows
     pub none : (i : ℕ) → i < k → DividesBooks s (shows i) → ⊥
 
   -- No show divides the books, and they have at most as many joint positions as a bench can record.
   abbrev pub AreEqual : Type 0
-  AreEqual = NoShowDivides × AtMost (left_machine s) (right_machine s) limit
+  AreEqual = NoShowDivides × AtMost (left_machine s).steps (right_machine s).steps LIMIT
 
   -- They have more, and none of the first so many in rank divides them.
   abbrev pub AreTooMany : Type 0
-  AreTooMany = MoreThan (left_machine s) (right_machine s) limit × NoneOfTheFirstDivides limit
+  AreTooMany = MoreThan (left_machine s).steps (right_machine s).steps LIMIT × NoneOfTheFirstDivides LIMIT
 
   -- A show of the sheet, of which this is so, and every other that divides the books comes later.
   pub record FirstThatDivides (Only : Show → Type 0) (t : Show) : Type 0 where

@@ -20,22 +20,21 @@ pub struct FoundShow {
 impl Model for FoundShow {
     ghost use Rattle.std.specs.Prelude.{◌≤◌, take};
     ghost use Rattle.machine.specs.Show.{Show};
-    ghost use Rattle.bench.specs.Cells.{limit};
+    ghost use Rattle.bench.specs.declared.cells.TheConstants.{LIMIT};
 
     ghost Value = { Show };
 
     ghost view = { λ found. take found.length found.cues };
 
-    ghost invariant = { λ found. found.length ≤ limit };
+    ghost invariant = { λ found. found.length ≤ LIMIT };
 }
 
 impl FoundShow {
     ghost use Rattle.std.specs.Prelude.{◌≤◌, take};
-    ghost use Rattle.bench.specs.Cells.{limit};
 
     // The show of so many cues at the front of a buffer.
     pub(crate) fn new(cues: [u8; ROOM], length: usize) -> FoundShow
-        requires { length ≤ limit }
+        requires { length ≤ LIMIT }
         ensures { result ≡ take length cues }
     {
         FoundShow { cues, length }

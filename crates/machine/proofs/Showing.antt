@@ -37,7 +37,7 @@ module _ {M : Type 0} (meaning : M → Meaning) (x : M) where
   taken_from p t (suc n) (c ∷ s) room h short =
       grind (arith, nat_tests, h.0, taken_from ((meaning x).steps.next p c) (t + 1) n s (omega arith) h.1 (omega arith))
 
-  stands : (calls : List ℕ) → after_cues meaning (begun meaning x) calls ≡ at (leads_to (meaning x) (heard count calls)) (length (heard count calls))
+  stands : (calls : List ℕ) → after_cues meaning (begun meaning x) calls ≡ at (leads_to (meaning x).steps (heard count calls)) (length (heard count calls))
   stands calls = stands_from (meaning x).steps.start 0 longest calls refl ∙ ap (at _) (omega arith)
 
   ahead : (calls : List ℕ) (w : Watch M) → standing w ≡ after_cues meaning (begun meaning x) calls → (rest : Show) → allowed (watch_meaning meaning w) rest ≡ allowed (meaning x) (heard count calls ++ rest)

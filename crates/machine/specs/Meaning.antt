@@ -19,12 +19,12 @@ abbrev pub led_from : Stepping → ℕ → Show → ℕ
 led_from m p s = fold m.next p s
 
 -- The position to which a show leads.
-abbrev pub leads_to : Meaning → Show → ℕ
-leads_to m s = led_from m.steps m.steps.start s
+abbrev pub leads_to : Stepping → Show → ℕ
+leads_to m s = led_from m m.start s
 
 -- A show is allowed when it may close at the position to which it leads.
 abbrev pub allowed : Meaning → Show → Bool
-allowed m s = m.closes (leads_to m s)
+allowed m s = m.closes (leads_to m.steps s)
 
 abbrev pub Allows : Meaning → Show → Type 0
 Allows m s = IsTrue (allowed m s)
@@ -33,13 +33,13 @@ Allows m s = IsTrue (allowed m s)
 abbrev pub Divides : Meaning → Meaning → Show → Type 0
 Divides m n s = (Allows m s × (Allows n s → ⊥)) ⊎ ((Allows m s → ⊥) × Allows n s)
 
--- The laws that every machine owes.
-pub record Lawful (m : Meaning) : Type 0 where
+-- The laws that every machine owes: all of them are about how it steps.
+pub record Lawful (m : Stepping) : Type 0 where
   -- it has 1 to 32 cues
-  pub some : 1 ≤ m.steps.cues
-  pub few : m.steps.cues ≤ 32
+  pub some : 1 ≤ m.cues
+  pub few : m.cues ≤ 32
   -- what is no cue of the machine leads nowhere else
-  pub stays : (p c : ℕ) → m.steps.cues ≤ c → m.steps.next p c ≡ p
+  pub stays : (p c : ℕ) → m.cues ≤ c → m.next p c ≡ p
   -- positions are numbers below 2^64
-  pub begins : m.steps.start < 2 ^ 64
-  pub within : (p c : ℕ) → p < 2 ^ 64 → m.steps.next p c < 2 ^ 64
+  pub begins : m.start < 2 ^ 64
+  pub within : (p c : ℕ) → p < 2 ^ 64 → m.next p c < 2 ^ 64

@@ -87,7 +87,7 @@ module _ {M : Type 0} (meaning : M → Meaning) where
 
   -- A watch over x that stands where a show leads, all its cues taken.
   abbrev pub stands_after : M → Show → Standing M
-  stands_after x s = record { machine = x; position = leads_to (meaning x) s; taken = length s }
+  stands_after x s = record { machine = x; position = leads_to (meaning x).steps s; taken = length s }
 
   -- A show over x that is closed: the machine unchanged, the number of cues, and whether the machine allows the show.
   abbrev pub closed_after : M → Show → Closed M

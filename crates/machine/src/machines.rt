@@ -28,12 +28,12 @@ pub trait Machine {
         ensures { result ≡ (meaning self.now).closes position };
 
     /// The cue count lies in 1 to 32, what is no cue leads nowhere else, and positions are below 2^64.
-    ghost lawful: { (x : Self) → Lawful (meaning x) };
+    ghost lawful: { (x : Self) → Lawful (meaning x).steps };
 }
 
 /// The position to which a show leads from the start.
 pub fn leads_to<M: Machine>(machine: &M, show: &[u8]) -> u64
-    ensures { result ≡ leads_to (M.Machine.meaning machine.now) show.now }
+    ensures { result ≡ leads_to (M.Machine.meaning machine.now).steps show.now }
 {
     show.iter().fold(
         machine.start(),

@@ -3,7 +3,7 @@
 use Rattle.std.specs.Prelude.{◌≡◌, ℕ, ◌+◌, ◌-◌, ◌/◌, ◌%◌, ◌<◌, ◌≤◌, ◌⊎◌, ◌&&◌, if◌then◌else◌, List, length, nat_lt, nat_le, slice_index, false}
 use Rattle.machine.specs.Meaning.{Meaning}
 use Rattle.search.specs.Search.{after}
-use Rattle.bench.specs.Cells.{limit}
+use Rattle.bench.specs.declared.cells.TheConstants.{LIMIT}
 
 -- By how many states a cue turns a wheel: the sixteen cues from the first on by one to sixteen, and the others not at all.
 abbrev pub turns : ℕ → ℕ → ℕ
@@ -28,4 +28,4 @@ pub record Wheel (states first : ℕ) (m : Meaning) : Type 0 where
 -- A comparison of a wheel of 64 states with one of 32 that the other cues turn, with all the grants that it can need, works so
 -- many joint positions.
 abbrev pub WheelsWorked : ℕ → Type 0
-WheelsWorked n = (l r : Meaning) × Wheel 64 0 l × Wheel 32 16 r × (n ≡ (after l r limit limit).worked)
+WheelsWorked n = (l r : Meaning) × Wheel 64 0 l × Wheel 32 16 r × (n ≡ (after l r LIMIT LIMIT).worked)

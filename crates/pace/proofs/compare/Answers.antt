@@ -1,5 +1,5 @@
 use Rattle.machine.specs.Table.{table_meaning}
-use Rattle.bench.specs.Cells.{limit}
+use Rattle.bench.specs.declared.cells.TheConstants.{LIMIT}
 use Rattle.pace.proofs.FirstGrant.{first_grant}
 use Rattle.pace.proofs.compare.Goals as goal
 
@@ -9,6 +9,6 @@ returns c = (
   table_meaning c.wheel-2.result,
   c.wheel.ensures,
   c.wheel-2.ensures,
-  first_grant table_meaning table_meaning c.wheel.result c.wheel-2.result c.open-bench.result c.advance.new.self limit c.advance.result
+  first_grant table_meaning table_meaning c.wheel.result c.wheel-2.result c.open-bench.result c.advance.new.self LIMIT c.advance.result
       c.open-bench.ensures.machines c.open-bench.ensures.state c.advance.ensures.called,
 )
