@@ -1,7 +1,8 @@
 -- The example tables: three cues, LOAD, HOLD and FLY.
 -- Assumes nothing.
-use Rattle.std.specs.Prelude.{◌≡◌, ℕ, zero, suc, ◌<◌, List, [], ◌∷◌, length, codes, slice_index}
-use Rattle.machine.specs.Show.{Show}
+use Rattle.std.specs.Prelude.{◌≡◌, ◌↔◌, ℕ, zero, suc, ◌<◌, List, [], ◌∷◌, length, codes, slice_index}
+use Rattle.machine.specs.Show.{Show, Cued}
+use Rattle.machine.specs.Meaning.{Meaning, Allows}
 use Rattle.machine.specs.Table.{Description, described}
 
 -- A flight only after its star field was loaded. State 0: nothing is loaded. State 1: loaded. State 2: a flight came too
@@ -29,6 +30,10 @@ HoldLater s = (i : ℕ) → i < length s → slice_index s i ≡ 0 → (k : ℕ)
 -- Directly after every LOAD (cue 0) stands HOLD (cue 1).
 abbrev pub HoldDirectly : Show → Type 0
 HoldDirectly s = (i : ℕ) → i < length s → slice_index s i ≡ 0 → (suc i < length s) × (slice_index s (suc i) ≡ 1)
+
+-- Of the shows of the three cues the machine allows just those of which this is so.
+abbrev pub AllowsJust : Meaning → (Show → Type 0) → Type 0
+AllowsJust m P = (s : Show) → Cued 3 s → Allows m s ↔ P s
 
 -- The names of the three cues. Any other number is written as a question mark.
 abbrev pub cue_name : ℕ → List ℕ

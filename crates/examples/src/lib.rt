@@ -2,11 +2,9 @@
 
 #![tactic(auto)]
 
-ghost use Rattle.std.specs.Prelude.{◌≡◌, ◌↔◌, IsTrue};
-ghost use Rattle.machine.specs.Show.{Show, Cued};
-ghost use Rattle.machine.specs.Meaning.{allowed};
+ghost use Rattle.std.specs.Prelude.{◌≡◌};
 ghost use Rattle.machine.specs.Table.{described, Right, Means, table_meaning};
-ghost use Rattle.examples.specs.Example.{load_first, hold_later, hold_directly, LoadFirst, HoldLater, HoldDirectly, cue_name};
+ghost use Rattle.examples.specs.Example.{load_first, hold_later, hold_directly, LoadFirst, HoldLater, HoldDirectly, AllowsJust, cue_name};
 
 use machine::Table;
 
@@ -24,27 +22,24 @@ pub fn name(cue: u8) -> &'static str
 
 /// A flight only after its star field was loaded: before every FLY a LOAD stands earlier.
 pub fn flight() -> Table
-    ensures table { Means (table_meaning result) load_first }
-    ensures rule { (s : Show) → Cued 3 s →
-        (IsTrue (allowed (table_meaning result) s) ↔ LoadFirst s) }
+    ensures as_described { Means (table_meaning result) load_first }
+    ensures flies_only_after_load { AllowsJust (table_meaning result) LoadFirst }
 {
     filled(3, 3, &[1, 0, 2, 1, 1, 1, 2, 2, 2], 0b011)
 }
 
 /// After every LOAD a HOLD stands later.
 pub fn held_later() -> Table
-    ensures table { Means (table_meaning result) hold_later }
-    ensures rule { (s : Show) → Cued 3 s →
-        (IsTrue (allowed (table_meaning result) s) ↔ HoldLater s) }
+    ensures as_described { Means (table_meaning result) hold_later }
+    ensures each_load_is_held_later { AllowsJust (table_meaning result) HoldLater }
 {
     filled(2, 3, &[1, 0, 0, 1, 0, 1], 0b01)
 }
 
 /// Directly after every LOAD stands HOLD.
 pub fn held_directly() -> Table
-    ensures table { Means (table_meaning result) hold_directly }
-    ensures rule { (s : Show) → Cued 3 s →
-        (IsTrue (allowed (table_meaning result) s) ↔ HoldDirectly s) }
+    ensures as_described { Means (table_meaning result) hold_directly }
+    ensures each_load_is_held_directly { AllowsJust (table_meaning result) HoldDirectly }
 {
     filled(3, 3, &[1, 0, 0, 2, 0, 2, 2, 2, 2], 0b001)
 }

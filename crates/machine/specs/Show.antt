@@ -23,7 +23,7 @@ pub record LowerAt (s t : Show) (i : ℕ) : Type 0 where
   pub agree : (k : ℕ) → k < i → slice_index s k ≡ slice_index t k
   pub smaller : slice_index s i < slice_index t i
 
--- Show order: shorter shows first; of two equally long shows the one with the smaller cue at the first difference.
+-- Show order: a shorter show is earlier; between two of one length the first place where they differ decides, by the smaller cue.
 abbrev pub Earlier : Show → Show → Type 0
 Earlier s t = (length s < length t) ⊎ ((length s ≡ length t) × ((i : ℕ) × LowerAt s t i))
 

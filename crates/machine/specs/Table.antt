@@ -12,7 +12,7 @@ abbrev pub bit : ℕ → ℕ → Bool
 bit n i = n / 2 ^ i % 2 == 1
 
 -- A table means: start at state 0; state p and cue c lead to the byte in row p and column c; state p may close
--- where its bit is set. A position that is no state moves to itself and may not close.
+-- where its bit is set. Where a position is no state, cues leave it where it is, and no show closes there.
 abbrev pub table_meaning : Table → Meaning
 table_meaning t = record {
   steps = record {
@@ -23,8 +23,8 @@ table_meaning t = record {
   closes = λ p. nat_lt p t.states && bit t.closing p;
 }
 
--- What a table is filled from: a state count, a cue count, a byte of next state for each state and cue, state by state,
--- and a number whose bit s says that state s may close.
+-- What a table is filled from: the two counts, the next states as bytes, row by row, a row for each state with a byte
+-- for each cue, and a number whose set bits are the states that may close.
 pub record Description : Type 0 where
   pub states : ℕ
   pub cues : ℕ

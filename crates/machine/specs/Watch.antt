@@ -47,7 +47,7 @@ started_at m p = record m { steps = record m.steps { start = p } }
 
 -- What the calls do, for machines of any type, whose meaning is given.
 module _ {M : Type 0} (meaning : M → Meaning) where
-  -- A running watch means the machine below, started at the position reached.
+  -- A running watch means its machine with another start: the position that the show has reached.
   abbrev pub watch_meaning : Watch M → Meaning
   watch_meaning w = started_at (meaning w.machine) w.position
 

@@ -2,8 +2,8 @@
 ghost use Rattle.std.specs.Prelude.{◌≡◌, ◌↔◌, IsTrue};
 ghost use Rattle.machine.specs.Meaning.{Meaning, Lawful, leads_to, allowed, Divides};
 
-/// A machine (a deterministic automaton): it has a cue count, a start position, a next position for every position and
-/// cue, and says at every position whether a show may close there.
+/// A machine (a deterministic automaton). It tells how many cues it has, at which position every show begins, to which
+/// position a cue leads from any other, and at which positions a show may close.
 ///
 /// A new kind of machine writes its meaning out in specs/ and shows its four calls equal to it. The calls never refuse,
 /// and answer the same however often they are called.
@@ -50,7 +50,8 @@ pub fn allows<M: Machine>(machine: &M, show: &[u8]) -> bool
 
 /// Whether a show divides (distinguishes) two machines: exactly one of them allows it.
 pub fn divides<L: Machine, R: Machine>(left: &L, right: &R, show: &[u8]) -> bool
-    ensures { IsTrue result ↔ Divides (L.Machine.meaning left.now) (R.Machine.meaning right.now) show.now }
+    ensures { IsTrue result
+        ↔ Divides (L.Machine.meaning left.now) (R.Machine.meaning right.now) show.now }
 {
     allows(left, show) != allows(right, show)
 }

@@ -7,8 +7,8 @@ mod machine;
 // One byte for each of at most 64 states and 32 cues.
 const CELLS: usize = 2048;
 
-/// A table (an explicit automaton): 1 to 64 states, numbered from 0, the start, with the next state for each state and cue, and
-/// with a bit for each state, whether a show may close there.
+/// A table (an explicit automaton). Its 1 to 64 states bear the numbers from 0 on, and shows begin at 0. It keeps the next state
+/// for each state and cue, and a bit for each state, whether a show may close there.
 #[derive(Drop)]
 pub struct Table {
     states: u8,

@@ -1,22 +1,24 @@
 -- What the lines that are read do to the running show, and what is printed of them.
 -- Assumes nothing.
-use Rattle.std.specs.Prelude.{◌≡◌, ◌++◌, ◌↔◌, ℕ, List, [], Ok, Err, IsTrue, Result, MatchResult, codes, decimal, min, if◌then◌else◌}
+use Rattle.std.specs.Prelude.{◌≡◌, ◌++◌, ℕ, List, [], Option, MatchOption, Ok, Err, Result, MatchResult, codes, decimal, min, if◌then◌else◌}
 use Rattle.std.specs.Str.Parse.{IsNumeral, digits_value}
-use Rattle.machine.specs.Show.{Show, Cued}
-use Rattle.machine.specs.Meaning.{allowed}
 use Rattle.machine.specs.declared.tables.Table.{Table}
 use Rattle.machine.specs.declared.watches.Watch.{Watch}
 use Rattle.machine.specs.declared.watches.CueRefusal.{CueRefusal}
 use Rattle.machine.specs.Table.{table_meaning}
 use Rattle.machine.specs.Watch.{standing, cue_answer, cue_number, after_cue, after_cues, closed, watch_meaning}
-use Rattle.examples.specs.Example.{LoadFirst, cue_name}
+use Rattle.examples.specs.Example.{LoadFirst, AllowsJust, cue_name}
 use Rattle.play.specs.declared.Stand.{Stand}
 use Rattle.play.specs.declared.Answered.{Answered}
 use Rattle.play.specs.declared.Ended.{Ended}
 
 -- Of the shows of the three cues the watch allows just those that have a LOAD before every FLY.
 abbrev pub FliesAfterLoad : Watch Table → Type 0
-FliesAfterLoad w = (s : Show) → Cued 3 s → IsTrue (allowed (watch_meaning table_meaning w) s) ↔ LoadFirst s
+FliesAfterLoad w = AllowsJust (watch_meaning table_meaning w) LoadFirst
+
+-- The number that is read on a line, if the line is one: 255 where it is more.
+abbrev pub IsNumberOf : Option ℕ → List ℕ → Type 0
+IsNumberOf r line = MatchOption r (¬ (IsNumeral 10 line)) (λ n. IsNumeral 10 line × (n ≡ min 255 (digits_value 10 line)))
 
 -- The answer is the watch's own, and of a cue taken it tells where the watch stands then and whether the show may close there.
 abbrev pub Told : Result Stand CueRefusal → Watch Table → Watch Table → ℕ → Type 0
@@ -39,6 +41,10 @@ pub record Called (a : Answered) (before after : Watch Table) (line : List ℕ) 
   pub cue : a.cue ≡ min 255 (digits_value 10 line)
   pub told : Told a.answer before after a.cue
   pub moved : standing after ≡ after_cue table_meaning (standing before) a.cue
+
+-- A line is called when it is a number, and else nothing was done.
+abbrev pub CalledIfNumeral : Option Answered → Watch Table → Watch Table → List ℕ → Type 0
+CalledIfNumeral r before after line = MatchOption r (NotCalled before after line) (λ a. Called a before after line)
 
 -- What is printed of a line that is a number: of a cue taken the cue, its name and where the show stands; of one turned down the
 -- line as it was read, and the refusal's number.

@@ -2,12 +2,12 @@
 
 #![tactic(auto)]
 
-ghost use Rattle.std.specs.Prelude.{◌≡◌, ◌↔◌, min, IsTrue, MatchOption, Some};
-ghost use Rattle.std.specs.Str.Parse.{IsNumeral, digits_value};
+ghost use Rattle.std.specs.Prelude.{◌≡◌, ◌↔◌, IsTrue, Some};
+ghost use Rattle.std.specs.Str.Parse.{IsNumeral};
 ghost use Rattle.machine.specs.Table.{Means, table_meaning};
 ghost use Rattle.machine.specs.Watch.{standing, after_cue, IsSpent};
 ghost use Rattle.examples.specs.Example.{load_first};
-ghost use Rattle.play.specs.Playing.{FliesAfterLoad, Told, NotCalled, Called, OnlyCued, EndedAs, stand_text, answered_text, ended_text};
+ghost use Rattle.play.specs.Playing.{FliesAfterLoad, IsNumberOf, Told, CalledIfNumeral, OnlyCued, EndedAs, stand_text, answered_text, ended_text};
 
 use examples::{flight, name};
 use machine::{Closed, CueRefusal, Machine, Numbered, Slip, Table, Watch};
@@ -77,9 +77,10 @@ impl fmt::Display for Ended {
 
 // Begins a show over the example in which FLY comes only after LOAD.
 fn begin() -> (Watch<Table>, Slip)
-    ensures table { Means (table_meaning (standing result.0).machine) load_first }
-    ensures rule { FliesAfterLoad result.0 }
-    ensures begun { ((standing result.0).position ≡ 0) × ((standing result.0).taken ≡ 0) }
+    ensures as_described { Means (table_meaning (standing result.0).machine) load_first }
+    ensures flies_only_after_load { FliesAfterLoad result.0 }
+    ensures at_the_start { (standing result.0).position ≡ 0 }
+    ensures none_taken { (standing result.0).taken ≡ 0 }
     ensures unspent { ¬ IsSpent result.1 }
 {
     Watch::begin(flight())
@@ -94,8 +95,7 @@ fn is_numeral(line: &str) -> bool
 
 // The decimal number on a line. One above 255 is read as 255, since neither is a cue of any machine.
 fn number(line: &str) -> Option<u8>
-    ensures { MatchOption result (¬ (IsNumeral 10 line.now))
-        (λ n. IsNumeral 10 line.now × (n ≡ min 255 (digits_value 10 line.now))) }
+    ensures { IsNumberOf result line.now }
 {
     if !is_numeral(line) {
         return None;
@@ -106,7 +106,7 @@ fn number(line: &str) -> Option<u8>
 // Calls the cue, and says what it did.
 fn take(watch: &mut Watch<Table>, cue: u8) -> Result<Stand, CueRefusal>
     ensures told { Told result watch.old watch.new cue }
-    ensures after { standing watch.new ≡ after_cue table_meaning (standing watch.old) cue }
+    ensures moved { standing watch.new ≡ after_cue table_meaning (standing watch.old) cue }
 {
     watch.cue(cue)?;
     let position = watch.start();
@@ -118,7 +118,7 @@ fn take(watch: &mut Watch<Table>, cue: u8) -> Result<Stand, CueRefusal>
 
 // Calls the cue of a line that is a number, and says what it did.
 fn call<'a>(watch: &mut Watch<Table>, line: &'a str) -> Option<Answered<'a>>
-    ensures { MatchOption result (NotCalled watch.old watch.new line.now) (λ a. Called a watch.old watch.new line.now) }
+    ensures { CalledIfNumeral result watch.old watch.new line.now }
 {
     let cue = number(line)?;
     let answer = take(watch, cue);

@@ -1,7 +1,7 @@
 //! Making and filling a table.
 ghost use Rattle.std.specs.Prelude.{◌≡◌, ◌-◌, ◌^◌, ◌<◌, ◌≤◌, ◌↔◌, ◌++◌, Some, length, replicate, IsTrue};
 ghost use Rattle.machine.specs.Show.{AllBelow};
-ghost use Rattle.machine.specs.Table.{described, description_of, MeansWhatItHolds, LookedOver, Filled, Made, Holds, fill_number, fill_words, blank};
+ghost use Rattle.machine.specs.Table.{described, description_of, LookedOver, Filled, Made, Holds, fill_number, fill_words, blank};
 ghost use Rattle.std.proofs.Common.{rules};
 
 use super::{CELLS, FillRefusal, Table};
@@ -53,8 +53,8 @@ impl Table {
         }
     }
 
-    /// Fills the table: `next` has one byte of next state for each state and cue, state by state, and bit s of `closing` says
-    /// that state s may close. A refusal leaves the table as it was.
+    /// Fills the table. `next` names the next states, first those of state 0, one byte a cue, then those of state 1, and so on;
+    /// bit s of `closing` is set where state s may close. A refusal leaves the table as it was.
     pub fn fill(
         &mut self,
         states: u8,
@@ -83,10 +83,9 @@ impl Table {
         Ok(table)
     }
 
-    /// How many states the table has: those of the description that it holds, which is right and which it means.
+    /// How many states the table has: those of the description that it holds.
     pub fn states(&self) -> u8
-        ensures value { result ≡ (description_of self.now).states }
-        ensures means { MeansWhatItHolds self.now }
+        ensures { result ≡ (description_of self.now).states }
     {
         self.states
     }

@@ -41,7 +41,7 @@ impl<M: Machine> Watch<M> {
     pub fn begin(machine: M) -> (Watch<M>, Slip)
         ensures begun { standing result.0 ≡ begun M.Machine.meaning machine }
         ensures unspent { ¬ IsSpent result.1 }
-        ensures whole_show { WholeShow M.Machine.meaning machine }
+        ensures stands_where_its_show_leads { WholeShow M.Machine.meaning machine }
     {
         let position = machine.start();
         let watch = Watch {
@@ -54,8 +54,8 @@ impl<M: Machine> Watch<M> {
 
     /// Takes the next cue of the show. A refusal leaves the watch as it was.
     pub fn cue(&mut self, cue: u8) -> Result<(), CueRefusal>
-        ensures answer { result ≡ cue_answer M.Machine.meaning (standing self.old) cue }
-        ensures after { standing self.new ≡ after_cue M.Machine.meaning (standing self.old) cue }
+        ensures answered { result ≡ cue_answer M.Machine.meaning (standing self.old) cue }
+        ensures moved { standing self.new ≡ after_cue M.Machine.meaning (standing self.old) cue }
     {
         if cue >= self.machine.cues() {
             return Err(CueRefusal::NoSuchCue);

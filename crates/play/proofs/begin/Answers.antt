@@ -11,8 +11,8 @@ use Rattle.play.proofs.begin.Goals as goal
 flies_at_start : (w : Watch Table) → w.position ≡ 0 → Means (table_meaning w.machine) load_first → FliesAfterLoad w
 flies_at_start w at means s cued = rw at (load_first_lem (table_meaning w.machine) means s cued)
 
-pub returns-clause-rule : goal.returns-clause-rule
-returns-clause-rule c =
+pub returns-clause-flies_only_after_load : goal.returns-clause-flies_only_after_load
+returns-clause-flies_only_after_load c =
     let w = c.begin.result.0 in
     let means : Means (table_meaning w.machine) load_first = search rules in
     flies_at_start w (ap (λ v. v.position) c.begin.ensures.begun) means
