@@ -1,7 +1,8 @@
 -- The rules that a draft or a book holds, in places of a fixed number.
 -- Assumes nothing.
-use Rattle.std.specs.Prelude.{◌≡◌, ℕ, ◌-◌, ◌≤◌, List, ◌++◌, length, map, take, replicate, set, slice_get, Some, Result, MatchResult}
+use Rattle.std.specs.Prelude.{◌≡◌, ℕ, ◌-◌, ◌≤◌, List, ◌++◌, length, map, take, replicate, set, slice_get, Some, Option, MatchOption, Result, MatchResult}
 use Rattle.rules.specs.declared.templates.Template.TheVariants.{Init}
+use Rattle.rules.specs.declared.rules.Rule.{Rule}
 use Rattle.rules.specs.declared.rules.RuleRefusal.{RuleRefusal}
 use Rattle.rules.specs.declared.rules.RuleRefusal.TheVariants.{CountOutside}
 use Rattle.rules.specs.Form.{CountRight}
@@ -37,6 +38,10 @@ pub record Tidy (h : Held) : Type 0 where
 -- So of two that hold the same rules, as many are counted, and the same stands in all places.
 unfoldable pub ToldByRules : Type 0
 ToldByRules = (h g : Held) → Tidy h → Tidy g → held_rules h ≡ held_rules g → (h.count ≡ g.count) × (places_of h ≡ places_of g)
+
+-- Looking a place up: the rule held there, or none where none is held.
+abbrev pub FoundAt : Option Rule → Held → ℕ → Type 0
+FoundAt found h i = MatchOption found (length (held_rules h) ≤ i) (λ r. slice_get (held_rules h) i ≡ Some (terms r))
 
 -- Giving one of the rules held another count: a right count changes this rule alone, and another changes nothing.
 abbrev pub RetunedAt : ℕ → ℕ → Result Unit RuleRefusal → Held → Held → Type 0

@@ -34,7 +34,7 @@ ValueIs FailsAlways count H = (H [] → ⊥) × Always count (λ v. H v → ⊥)
 abbrev pub behind : ℕ → (Show → Type 0) → Show → Type 0
 behind q H v = H (q ∷ v)
 
--- A cue of the book is permitted when the value after it is not 3.
+-- A cue of the book is permitted unless the rule, after it, fails whatever follows.
 abbrev pub Permitted : ℕ → (Show → Type 0) → ℕ → Type 0
 Permitted count H q = (q < count) × (ValueIs FailsAlways count (behind q H) → ⊥)
 
@@ -48,7 +48,7 @@ pub record ReadAlike (count : ℕ) (H G : Show → Type 0) : Type 0 where
   pub value : (w : Value) → ValueIs w count H ↔ ValueIs w count G
   pub permitted : (q : ℕ) → Permitted count H q ↔ Permitted count G q
 
--- A cue is relevant when value or permitted cues differ after it.
+-- A cue is relevant when it changes the reading: the value, or which cues are permitted.
 abbrev pub Relevant : ℕ → (Show → Type 0) → ℕ → Type 0
 Relevant count H q = ReadAlike count H (behind q H) → ⊥
 

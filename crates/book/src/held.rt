@@ -1,7 +1,7 @@
 //! The rules that a draft or a book holds.
-ghost use Rattle.std.specs.Prelude.{◌≡◌, ◌<◌, ◌≤◌, ◌++◌, [], ◌∷◌, length, map, remove, slice_get, Some, MatchOption};
+ghost use Rattle.std.specs.Prelude.{◌≡◌, ◌<◌, ◌≤◌, ◌++◌, [], ◌∷◌, length, map, remove};
 ghost use Rattle.rules.specs.Rule.{terms};
-ghost use Rattle.book.specs.Held.{most_rules, blank, held_rules, Tidy, RetunedAt};
+ghost use Rattle.book.specs.Held.{most_rules, blank, held_rules, Tidy, RetunedAt, FoundAt};
 
 use rules::{Rule, RuleRefusal, Template};
 
@@ -23,8 +23,8 @@ pub(crate) struct Held {
 impl Held {
     // No rule is held.
     pub(crate) fn none() -> Held
-        ensures tidy { Tidy result }
-        ensures rules { held_rules result ≡ [] }
+        ensures is_tidy { Tidy result }
+        ensures holds_none { held_rules result ≡ [] }
     {
         Held {
             rules: [blank(); PLACES],
@@ -34,10 +34,10 @@ impl Held {
 
     // Holds one rule more, as the last.
     pub(crate) fn push(&mut self, rule: Rule)
-        requires tidy { Tidy self.old }
-        requires room { self.old.count < most_rules }
-        ensures tidy { Tidy self.new }
-        ensures rules { held_rules self.new ≡ held_rules self.old ++ terms rule ∷ [] }
+        requires is_tidy { Tidy self.old }
+        requires has_room { self.old.count < most_rules }
+        ensures is_tidy { Tidy self.new }
+        ensures holds_it_last { held_rules self.new ≡ held_rules self.old ++ terms rule ∷ [] }
     {
         self.rules[usize::from(self.count)] = rule;
         self.count += 1;
@@ -45,10 +45,10 @@ impl Held {
 
     // Takes a rule out. Later ones move down.
     pub(crate) fn remove(&mut self, i: u8)
-        requires tidy { Tidy self.old }
-        requires held { i < self.old.count }
-        ensures tidy { Tidy self.new }
-        ensures rules { held_rules self.new ≡ remove (held_rules self.old) i }
+        requires is_tidy { Tidy self.old }
+        requires is_held { i < self.old.count }
+        ensures is_tidy { Tidy self.new }
+        ensures later_move_down { held_rules self.new ≡ remove (held_rules self.old) i }
     {
         self.rules[usize::from(i)..].rotate_left(1);
         self.count -= 1;
@@ -57,27 +57,27 @@ impl Held {
 
     // Gives one rule another count. All others stay as they are.
     pub(crate) fn retune(&mut self, i: u8, n: u8) -> Result<(), RuleRefusal>
-        requires tidy { Tidy self.old }
-        requires held { i < self.old.count }
-        ensures tidy { Tidy self.new }
-        ensures retuned { RetunedAt i n result self.old self.new }
+        requires is_tidy { Tidy self.old }
+        requires is_held { i < self.old.count }
+        ensures is_tidy { Tidy self.new }
+        ensures retunes_it_alone { RetunedAt i n result self.old self.new }
     {
         self.rules[usize::from(i)].retune(n)
     }
 
     // The rules that are held.
     pub(crate) fn all(&self) -> &[Rule]
-        requires tidy { Tidy self.now }
-        ensures rules { map terms result.now ≡ held_rules self.now }
-        ensures few { length result.now ≤ most_rules }
+        requires is_tidy { Tidy self.now }
+        ensures just_those_held { map terms result.now ≡ held_rules self.now }
+        ensures at_most_16 { length result.now ≤ most_rules }
     {
         &self.rules[..usize::from(self.count)]
     }
 
     // The rule of a number, where one is held.
     pub(crate) fn get(&self, i: u8) -> Option<Rule>
-        requires tidy { Tidy self.now }
-        ensures { MatchOption result (length (held_rules self.now) ≤ i) (λ r. slice_get (held_rules self.now) i ≡ Some (terms r)) }
+        requires is_tidy { Tidy self.now }
+        ensures { FoundAt result self.now i }
     {
         if i < self.count {
             Some(self.rules[usize::from(i)])

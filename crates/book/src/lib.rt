@@ -7,8 +7,10 @@ mod ahead;
 mod books;
 mod drafts;
 mod held;
+mod theorems;
 mod values;
 
 pub use books::Book;
 pub use drafts::{Draft, DraftRefusal};
+pub use theorems::{example_cases, one_reading, second_a_not_relevant, told_by_rules};
 pub use values::{ReadingRefusal, Value};

@@ -6,13 +6,13 @@ mod naming;
 /// follow it. A value's published number is that of its case.
 #[derive(Clone, Copy, Debug, PartialEq, Eq, Hash)]
 pub enum Value {
-    /// The rule holds now and after every continuation (it is permanently satisfied).
+    /// The rule holds, whatever follows (it is permanently satisfied).
     HoldsAlways = 0,
-    /// The rule holds now, and fails after some continuation (it is currently satisfied).
+    /// The rule holds as the show stands, and can come to fail (it is currently satisfied).
     Holds = 1,
-    /// The rule fails now, and holds after some continuation (it is currently violated).
+    /// The rule fails as the show stands, and can come to hold (it is currently violated).
     Fails = 2,
-    /// The rule fails now and after every continuation (it is permanently violated).
+    /// The rule fails, whatever follows (it is permanently violated).
     FailsAlways = 3,
 }
 

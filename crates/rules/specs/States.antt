@@ -101,7 +101,7 @@ pub record StatesAre (t : Template) (n : ℕ) : Type 0 where
   pub within : (w : Word) → led t n 0 w < state_count t n
   pub reached : (s : ℕ) → s < state_count t n → (v : Word) × HasNumber t (led t n 0) v s
   pub few : state_count t n ≤ 16
-  -- a state that the rule lacks moves to itself and may not close
+  -- no letter leads out of a state beyond the rule's own, and no show closes there
   pub stays : (s : ℕ) (l : Letter) → state_count t n ≤ s → next_state t n s l ≡ s
   pub bars : (s : ℕ) → state_count t n ≤ s → may_close t n s ≡ false
   -- where the template lacks B, its moves by B repeat those by other

@@ -8,45 +8,45 @@ use Rattle.rules.specs.declared.templates.Arguments.TheVariants.{CueAndCount, Tw
 use Rattle.rules.specs.Word.{Word, StandsAt, Stands, StandsLater, StandsEarlier, NotBetween, times_a}
 use Rattle.rules.specs.Naming.{arguments_of}
 
--- After every A a B stands later.
+-- Each A is answered: a B follows, at once or later.
 abbrev pub Responds : Word → Type 0
 Responds w = (i : ℕ) → StandsAt A w i → StandsLater B w i
 
--- Before every B an A stands earlier.
+-- Each B is prepared: an A came before, at once or earlier.
 abbrev pub Precedes : Word → Type 0
 Precedes w = (i : ℕ) → StandsAt B w i → StandsEarlier A w i
 
--- After every A a B stands later, with no A between.
+-- Each A is answered before there is another A.
 abbrev pub RespondsAlternately : Word → Type 0
 RespondsAlternately w = (i : ℕ) → StandsAt A w i → (j : ℕ) × (i < j) × StandsAt B w j × NotBetween A w i j
 
--- Before every B an A stands earlier, with no B between.
+-- Each B is prepared by an A that came after the B before.
 abbrev pub PrecedesAlternately : Word → Type 0
 PrecedesAlternately w = (i : ℕ) → StandsAt B w i → (j : ℕ) × (j < i) × StandsAt A w j × NotBetween B w j i
 
--- Directly after every A stands B.
+-- The very next letter after each A is B.
 abbrev pub RespondsDirectly : Word → Type 0
 RespondsDirectly w = (i : ℕ) → StandsAt A w i → StandsAt B w (suc i)
 
--- Directly before every B stands A.
+-- The letter just before each B is A.
 abbrev pub PrecedesDirectly : Word → Type 0
 PrecedesDirectly w = (i : ℕ) → StandsAt B w i → (j : ℕ) × (suc j ≡ i) × StandsAt A w j
 
 -- When a template holds of a word. Only the first three look at the count n.
 abbrev pub Holds : Template → ℕ → Word → Type 0
--- A stands at least n times
+-- A stands in it n times or more
 Holds Existence n w = n ≤ times_a w
--- A stands fewer than n times
+-- A stands in it n - 1 times at most
 Holds Absence n w = times_a w < n
--- A stands n times
+-- A stands in it n times, no more and no less
 Holds Exactly n w = times_a w ≡ n
--- the show is empty or begins with A
+-- its first letter, if it has one, is A
 Holds Init n w = (w ≡ []) ⊎ StandsAt A w 0
--- the show is empty or ends with A
+-- its last letter, if it has one, is A
 Holds Last n w = (w ≡ []) ⊎ ((i : ℕ) × (suc i ≡ length w) × StandsAt A w i)
--- no A stands, or some B does
+-- A does not stand in it, or B stands too
 Holds RespondedExistence n w = (Stands A w → ⊥) ⊎ Stands B w
--- both stand or neither
+-- A and B stand in it, or neither
 Holds CoExistence n w = (Stands A w × Stands B w) ⊎ ((Stands A w → ⊥) × (Stands B w → ⊥))
 Holds Response n w = Responds w
 Holds Precedence n w = Precedes w
@@ -57,15 +57,15 @@ Holds AlternateSuccession n w = RespondsAlternately w × PrecedesAlternately w
 Holds ChainResponse n w = RespondsDirectly w
 Holds ChainPrecedence n w = PrecedesDirectly w
 Holds ChainSuccession n w = RespondsDirectly w × PrecedesDirectly w
--- not both stand
+-- A and B do not stand in it together
 Holds NotCoExistence n w = Stands A w × Stands B w → ⊥
--- no B stands later than an A
+-- behind no A stands a B
 Holds NotSuccession n w = (i : ℕ) → StandsAt A w i → StandsLater B w i → ⊥
--- no B stands directly after an A
+-- no A is followed at once by a B
 Holds NotChainSuccession n w = (i : ℕ) → StandsAt A w i → StandsAt B w (suc i) → ⊥
--- A or B stands
+-- at least one of the two stands in it
 Holds Choice n w = Stands A w ⊎ Stands B w
--- exactly one of the two stands
+-- one of the two stands in it, and the other does not
 Holds ExclusiveChoice n w = (Stands A w × (Stands B w → ⊥)) ⊎ ((Stands A w → ⊥) × Stands B w)
 
 -- The word with other in place of each B.
@@ -82,6 +82,6 @@ pub record MakesADifference (t : Template) : Type 0 where
   pub count : arguments_of t ≡ CueAndCount → (w : Word) × (Holds t 1 w ↔ Holds t 2 w → ⊥)
   pub b : arguments_of t ≡ TwoCues → (n : ℕ) → (w : Word) × (Holds t n (without_b w) ↔ Holds t n w → ⊥)
 
--- A theorem that `arguments` carries: a template takes just those arguments on which it hangs when it holds.
+-- A template takes just those arguments on which it hangs when it holds.
 unfoldable pub TakesWhatItNeeds : Template → Type 0
 TakesWhatItNeeds t = MakesADifference t

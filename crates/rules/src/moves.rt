@@ -7,8 +7,8 @@ use crate::letters::Letter;
 use crate::templates::Template;
 use machine::Numbered;
 
-// The moves of templates 4 to 21: for each of the 18 templates, 4 states and 3 letters (A, B, other) the next state. A state
-// that a template lacks moves to itself.
+// Where the letters lead, in a row for each template from 4 to 21: the next state by A, by B and by other, for each of four
+// states. What is no state of a template leads to itself.
 const MOVES: [u8; 216] = [
     1, 2, 2, 1, 1, 1, 2, 2, 2, 3, 3, 3, // init
     0, 1, 1, 0, 1, 1, 2, 2, 2, 3, 3, 3, // last

@@ -6,47 +6,47 @@ mod naming;
 /// case.
 #[derive(Clone, Copy, Debug, PartialEq, Eq, Hash)]
 pub enum Template {
-    /// A stands at least n times.
+    /// A is called n times or more.
     Existence = 1,
-    /// A stands fewer than n times.
+    /// A is not called n times: n - 1 times at most.
     Absence = 2,
-    /// A stands n times.
+    /// A is called n times, no more and no less.
     Exactly = 3,
-    /// The show is empty or begins with A.
+    /// A is the first cue of the show, if it has one.
     Init = 4,
-    /// The show is empty or ends with A.
+    /// A is the last cue of the show, if it has one.
     Last = 5,
-    /// No A stands, or some B does.
+    /// A show that calls A calls B too, before it or after.
     RespondedExistence = 6,
-    /// Both stand or neither.
+    /// A show that calls one of the two calls the other too.
     CoExistence = 7,
-    /// After every A a B stands later.
+    /// Each A is answered: B follows it, at once or later.
     Response = 8,
-    /// Before every B an A stands earlier.
+    /// Each B is prepared: A came before it, at once or earlier.
     Precedence = 9,
-    /// Response and precedence.
+    /// Each A is answered, and each B is prepared.
     Succession = 10,
-    /// After every A a B stands later, with no A between.
+    /// Each A is answered before A is called again.
     AlternateResponse = 11,
-    /// Before every B an A stands earlier, with no B between.
+    /// Each B is prepared by an A that came after the B before.
     AlternatePrecedence = 12,
-    /// Alternate response and alternate precedence.
+    /// Each A is answered and each B prepared, in turns.
     AlternateSuccession = 13,
-    /// Directly after every A stands B.
+    /// The very next cue after each A is B.
     ChainResponse = 14,
-    /// Directly before every B stands A.
+    /// The cue just before each B is A.
     ChainPrecedence = 15,
-    /// Chain response and chain precedence.
+    /// Each A has B right after it, and each B has A right before it.
     ChainSuccession = 16,
-    /// Not both stand.
+    /// A show that calls one of the two does not call the other.
     NotCoExistence = 17,
-    /// No B stands later than an A.
+    /// Once A is called, B no longer is.
     NotSuccession = 18,
-    /// No B stands directly after an A.
+    /// B is never the very next cue after A.
     NotChainSuccession = 19,
-    /// A or B stands.
+    /// At least one of the two is called.
     Choice = 20,
-    /// Exactly one of the two stands.
+    /// One of the two is called, and the other is not.
     ExclusiveChoice = 21,
 }
 

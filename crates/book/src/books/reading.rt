@@ -1,8 +1,7 @@
 //! Reading one rule of a book at a position, and weighing a cue for it.
 ghost use Rattle.std.specs.Prelude.{◌≡◌, ◌<◌};
 ghost use Rattle.book.specs.Book.{book_content, part};
-ghost use Rattle.book.specs.Examples.{ExamplesAsTold};
-ghost use Rattle.book.specs.Reading.{Stands, Read, ReadBehindShows, OneReading, Weighed, WeighedBehindShows, SecondANotRelevant};
+ghost use Rattle.book.specs.Reading.{Stands, Read, ReadBehindShows, Weighed, WeighedBehindShows};
 
 use super::{BASE, Book};
 use crate::ahead::Ahead;
@@ -10,31 +9,27 @@ use crate::values::{ReadingRefusal, Value};
 use rules::Rule;
 
 impl Book {
-    /// Reads rule i at a position: its value, and the permitted cues as bits, bit c for cue c. A cue is permitted when the value
-    /// after it is not 3.
+    /// Reads rule i at a position: its value, and the permitted cues as bits, bit c for cue c. A cue is permitted unless the rule,
+    /// after it, fails whatever follows.
     ///
-    /// At a position to which a show of the book's cues leads (`behind`), the reading is told of that show and of all that can
-    /// follow it.
-    #[tactic(auto, using(crate::proofs::Behind::read_behind, crate::proofs::Readings::one_reading, crate::proofs::Examples::examples_as_told))]
+    /// At a position to which a show of the book's cues leads, the reading is told of that show and of all that can follow it.
+    #[tactic(auto, using(crate::proofs::Behind::read_behind))]
     pub fn reading(&self, position: u64, i: u8) -> Result<(Value, u32), ReadingRefusal>
-        ensures answer { Read result (book_content self.now) position i }
-        ensures behind { ReadBehindShows result self.now position i }
-        ensures one { OneReading }
-        ensures examples { ExamplesAsTold }
+        ensures read_at_its_state { Read result (book_content self.now) position i }
+        ensures told_of_any_show_behind { ReadBehindShows result self.now position i }
     {
         let (rule, state) = self.stands(position, i)?;
         Ok(Ahead::of(rule, self.cues).reading(state))
     }
 
-    /// Whether a cue is relevant (its execution relevant) to rule i at a position: value or permitted cues differ after it.
+    /// Whether a cue is relevant (its execution relevant) to rule i at a position: it changes the value, or which cues are
+    /// permitted.
     ///
-    /// At a position to which a show of the book's cues leads (`behind`), this too is told of that show. While a response is
-    /// pending, one more A is not relevant (`second`).
-    #[tactic(auto, using(crate::proofs::Behind::weighed_behind, crate::proofs::Pending::second_a_not_relevant))]
+    /// At a position to which a show of the book's cues leads, this too is told of that show.
+    #[tactic(auto, using(crate::proofs::Behind::weighed_behind))]
     pub fn relevance(&self, position: u64, i: u8, cue: u8) -> Result<bool, ReadingRefusal>
-        ensures answer { Weighed result (book_content self.now) position i cue }
-        ensures behind { WeighedBehindShows result self.now position i cue }
-        ensures second { SecondANotRelevant }
+        ensures weighed_at_its_state { Weighed result (book_content self.now) position i cue }
+        ensures told_of_any_show_behind { WeighedBehindShows result self.now position i cue }
     {
         let (rule, at) = self.stands(position, i)?;
         if cue >= self.cues {

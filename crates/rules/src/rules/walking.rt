@@ -12,7 +12,7 @@ impl Rule {
     /// The letter that a cue is to the rule.
     pub fn letter(self, cue: u8) -> Letter
         ensures value { result ≡ letter_of (terms self) cue }
-        ensures falls { FallsUnder (terms self) cue result }
+        ensures cue_falls_under_it { FallsUnder (terms self) cue result }
     {
         if cue == self.a {
             Letter::A
@@ -26,7 +26,7 @@ impl Rule {
     /// How many states the rule has: those of its minimal automaton, numbered from 0 as words over its letters first reach them.
     pub fn states(self) -> u8
         ensures value { result ≡ states_of (terms self) }
-        ensures are { StatesAre (terms self).template (terms self).n }
+        ensures numbered_by_first_reach { StatesAre (terms self).template (terms self).n }
     {
         match self.template {
             Template::Existence | Template::Absence => self.n + 1,
@@ -52,7 +52,7 @@ impl Rule {
     /// the rule lacks none may.
     pub fn closes(self, state: u8) -> bool
         ensures value { result ≡ closes_at (terms self) state }
-        ensures law { ClosesWhereItHolds (terms self) }
+        ensures closes_where_it_holds { ClosesWhereItHolds (terms self) }
     {
         match self.template {
             Template::Existence | Template::Exactly => state == self.n,
@@ -64,7 +64,7 @@ impl Rule {
     /// Whether the rule holds of a show.
     pub fn holds(self, show: &[u8]) -> bool
         ensures value { IsTrue result ↔ HoldsOf (terms self) show.now }
-        ensures places { SeenByPlace (terms self) }
+        ensures sees_place_by_place { SeenByPlace (terms self) }
     {
         let state = show
             .iter()

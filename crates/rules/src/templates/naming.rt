@@ -1,7 +1,7 @@
 //! What templates are called, and which arguments they take.
 ghost use Rattle.std.specs.Prelude.{◌≡◌};
 ghost use Rattle.rules.specs.Template.{TakesWhatItNeeds};
-ghost use Rattle.rules.specs.Naming.{template_number, template_word, arguments_of, WordsToldApart, NumberedSo};
+ghost use Rattle.rules.specs.Naming.{template_number, template_word, arguments_of, NumberedSo};
 ghost use Rattle.std.proofs.Common.{rules};
 
 use super::{Arguments, Template};
@@ -52,7 +52,7 @@ impl Template {
     #[tactic(auto, using(crate::proofs::Taken::takes_what_it_needs))]
     pub fn arguments(self) -> Arguments
         ensures value { result ≡ arguments_of self }
-        ensures needs { TakesWhatItNeeds self }
+        ensures takes_what_it_needs { TakesWhatItNeeds self }
     {
         match self {
             Template::Existence | Template::Absence | Template::Exactly => Arguments::CueAndCount,
@@ -62,10 +62,8 @@ impl Template {
     }
 
     /// The template's word. No two templates have one word.
-    #[tactic(auto, using(crate::proofs::Words::words_apart))]
     pub fn word(self) -> &'static [u8]
-        ensures value { result.now ≡ template_word self }
-        ensures told_apart { WordsToldApart }
+        ensures { result.now ≡ template_word self }
     {
         match self {
             Template::Existence => b"existence",

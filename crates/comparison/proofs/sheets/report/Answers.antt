@@ -6,12 +6,12 @@ pub invariant_of-result : goal.invariant_of-result
 invariant_of-result c = let (s, holds, formed) = c.requires in record { readable = rw holds.names (plain_names s.names formed.0.forms) }
 
 pub returns : goal.returns
-returns c = λ s holds formed. report_of _ c.args.sheet s _ _ holds c.seal.ensures.content c.seal-2.ensures.content refl
+returns c = λ s holds formed. report_of _ c.args.sheet s _ _ holds c.seal.ensures.same_content c.seal-2.ensures.same_content refl
     (record {
-      allows = c.seal.ensures.allows;
-      positions = c.seal.ensures.positions;
-      also_allows = c.seal-2.ensures.allows;
-      also_positions = c.seal-2.ensures.positions;
+      allows = c.seal.ensures.allows_what_holds;
+      positions = c.seal.ensures.one_position_unless_told_apart;
+      also_allows = c.seal-2.ensures.allows_what_holds;
+      also_positions = c.seal-2.ensures.one_position_unless_told_apart;
       finding = c.books_compared-finding.ensures.finding;
       tally = c.books_compared-finding.ensures.tally;
     })

@@ -1,0 +1,31 @@
+//! What is so of readings and of drafts and books, on no call in particular. These functions do nothing; a caller takes the fact
+//! from them.
+ghost use Rattle.book.specs.Examples.{ExampleCasesHold};
+ghost use Rattle.book.specs.Held.{ToldByRules};
+ghost use Rattle.book.specs.Reading.{OneReading, SecondANotRelevant};
+
+/// Each of the example cases holds: of seven rules, a show of which it holds and one of which it does not, and of a response what
+/// is read at the empty show and after its A.
+#[tactic(auto, using(crate::proofs::Examples::example_cases_hold))]
+pub fn example_cases()
+    ensures { ExampleCasesHold }
+{}
+
+/// Two right readings of a state are the same: one value, and the same permitted cues.
+#[tactic(auto, using(crate::proofs::Readings::one_reading))]
+pub fn one_reading()
+    ensures { OneReading }
+{}
+
+/// While a response waits for its B, one more A is not relevant to it.
+#[tactic(auto, using(crate::proofs::Pending::second_a_not_relevant))]
+pub fn second_a_not_relevant()
+    ensures { SecondANotRelevant }
+{}
+
+/// Of whatever a draft or a book has beside its cue count, its rules tell all: so nothing is lost by sealing and reopening, and
+/// nothing left over.
+#[tactic(auto, using(crate::proofs::Places::told_by_rules))]
+pub fn told_by_rules()
+    ensures { ToldByRules }
+{}
