@@ -1,4 +1,5 @@
 pub mod Places
+pub mod Same
 pub mod Parts
 pub mod Positions
 pub mod Gathered

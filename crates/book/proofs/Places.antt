@@ -13,7 +13,7 @@ use Rattle.rules.specs.Naming.{arguments_of}
 use Rattle.rules.specs.Rule.{Terms, terms, retuned, Retuned}
 use Rattle.book.specs.declared.held.Held.{Held}
 use Rattle.std.proofs.Common.{Some, slice_get, slice_index_or, Result}
-use Rattle.book.specs.Held.{most_rules, blank, places_of, held_rules, filled_up, Tidy, ToldByRules, RetunedAt}
+use Rattle.book.specs.Held.{most_rules, blank, places_of, held_rules, filled_up, Tidy, RetunedAt}
 
 -- Taking out of a mapped list.
 map-remove : {X Y : Type 0} (f : X → Y) (xs : List X) (i : ℕ) → map f (remove xs i) ≡ remove (map f xs) i
@@ -46,9 +46,8 @@ holding h rs long room at all = (record { places = all; room = room; laid = at �
     held : held_rules h ≡ rs
     held = ap (take h.count) at ∙ take_at rs _ h.count long
 
--- The rules held tell all that stands there.
-pub told_by_rules : ToldByRules
-unfolding ToldByRules
+-- The rules held tell how many are counted, and all that stands in the places.
+pub told_by_rules : (h g : Held) → Tidy h → Tidy g → held_rules h ≡ held_rules g → (h.count ≡ g.count) × (places_of h ≡ places_of g)
 told_by_rules h g tidy also same = (sym (held_long h tidy) ∙ ap length same ∙ held_long g also, tidy.laid ∙ ap filled_up same ∙ sym also.laid)
 
 module _ (h : Held) (tidy : Tidy h) where

@@ -35,10 +35,6 @@ pub record Tidy (h : Held) : Type 0 where
   pub room : h.count ≤ most_rules
   pub laid : places_of h ≡ filled_up (held_rules h)
 
--- So of two that hold the same rules, as many are counted, and the same stands in all places.
-unfoldable pub ToldByRules : Type 0
-ToldByRules = (h g : Held) → Tidy h → Tidy g → held_rules h ≡ held_rules g → (h.count ≡ g.count) × (places_of h ≡ places_of g)
-
 -- Looking a place up: the rule held there, or none where none is held.
 abbrev pub FoundAt : Option Rule → Held → ℕ → Type 0
 FoundAt found h i = MatchOption found (length (held_rules h) ≤ i) (λ r. slice_get (held_rules h) i ≡ Some (terms r))

@@ -3,6 +3,7 @@ pub mod Content
 pub mod Draft
 pub mod Book
 pub mod Law
+pub mod Whole
 pub mod Value
 pub mod Reading
 pub mod Coreachable

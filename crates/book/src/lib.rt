@@ -12,5 +12,5 @@ mod values;
 
 pub use books::Book;
 pub use drafts::{Draft, DraftRefusal};
-pub use theorems::{example_cases, one_reading, second_a_not_relevant, told_by_rules};
+pub use theorems::{example_cases, one_reading, second_a_not_relevant, whole_in_content};
 pub use values::{ReadingRefusal, Value};

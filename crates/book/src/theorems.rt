@@ -1,8 +1,8 @@
 //! What is so of readings and of drafts and books, on no call in particular. These functions do nothing; a caller takes the fact
 //! from them.
 ghost use Rattle.book.specs.Examples.{ExampleCasesHold};
-ghost use Rattle.book.specs.Held.{ToldByRules};
 ghost use Rattle.book.specs.Reading.{OneReading, SecondANotRelevant};
+ghost use Rattle.book.specs.Whole.{WholeInContent};
 
 /// Each of the example cases holds: of seven rules, a show of which it holds and one of which it does not, and of a response what
 /// is read at the empty show and after its A.
@@ -23,9 +23,9 @@ pub fn second_a_not_relevant()
     ensures { SecondANotRelevant }
 {}
 
-/// Of whatever a draft or a book has beside its cue count, its rules tell all: so nothing is lost by sealing and reopening, and
+/// A draft and a book are what they hold, cues and rules, and nothing beside: so nothing is lost by sealing and reopening, and
 /// nothing left over.
-#[tactic(auto, using(crate::proofs::Places::told_by_rules))]
-pub fn told_by_rules()
-    ensures { ToldByRules }
+#[tactic(auto, using(crate::proofs::Same::whole_in_content))]
+pub fn whole_in_content()
+    ensures { WholeInContent }
 {}
