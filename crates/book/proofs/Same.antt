@@ -1,6 +1,6 @@
 -- Rules that say the same are one; so two drafts of the same content are one, and so are two books.
 -- Assumes nothing.
-use Rattle.std.proofs.Common.{◌≡◌, ℕ, ◌≤◌, List, [], ◌∷◌, map, refl, sym, subst, ap}
+use Rattle.std.proofs.Common.{◌≡◌, ℕ, ◌≤◌, List, [], ◌∷◌, map, refl, subst, ap}
 use Rattle.std.proofs.Props.{props}
 use Rattle.rules.specs.declared.rules.Rule.{Rule}
 use Rattle.rules.specs.Form.{InForm}
@@ -9,7 +9,6 @@ use Rattle.rules.specs.Rule.{Terms, terms}
 use Rattle.book.specs.declared.held.Held.{Held}
 use Rattle.book.specs.declared.drafts.Draft.{Draft}
 use Rattle.book.specs.declared.books.Book.{Book}
-use Rattle.book.specs.Content.{Content}
 use Rattle.book.specs.Held.{Tidy, held_rules}
 use Rattle.book.specs.Draft.{draft_content}
 use Rattle.book.specs.Book.{book_content}
