@@ -1,6 +1,6 @@
 //! Sheets that come slowly or not at all, and outcomes that are taken slowly or not at all. What the reader of a file or the writer of
 //! one does when it fails no contract can say, so it is run.
-use super::answer;
+use comparison::answer;
 use std::io;
 use std::io::{ErrorKind, Read, Write};
 use std::process::Abort;

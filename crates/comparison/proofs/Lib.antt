@@ -5,3 +5,5 @@ pub mod Divided
 pub mod JustFound
 pub mod Reported
 pub mod OneText
+pub mod Buffered
+pub mod Whole

@@ -3,3 +3,4 @@ pub mod Books
 pub mod Finding
 pub mod Outcome
 pub mod Printing
+pub mod Answering

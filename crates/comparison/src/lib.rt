@@ -3,6 +3,7 @@
 
 #![tactic(auto)]
 
+mod answering;
 mod books;
 mod deciding;
 mod findings;
@@ -11,6 +12,7 @@ mod printing;
 mod reports;
 mod sheets;
 
+pub use answering::{AnswerError, answer};
 pub use deciding::{Decision, Tally, decide};
 pub use outcomes::{Finding, FoundShow, Outcome};
 pub use reports::Report;

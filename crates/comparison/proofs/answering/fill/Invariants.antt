@@ -1,6 +1,6 @@
 use Rattle.std.proofs.Common.{◌≡◌, ◌≤◌, length, take}
 use Rattle.std.specs.Io.KnownBytes.{Consumes}
-use Rattle.compare.proofs.fill.Given as goal
+use Rattle.comparison.proofs.answering.fill.Given as goal
 
 -- What was read so far stands at the front of the buffer.
 abbrev pub invariant-loop : goal.invariant-loop
