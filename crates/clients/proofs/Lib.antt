@@ -1,0 +1,4 @@
+pub mod Handling
+pub mod Compared
+pub mod Told
+pub mod Patient

@@ -1,0 +1,36 @@
+use Rattle.std.proofs.Common.{◌≡◌, ◌≢◌, Bool, true, sym, arith, rules}
+use Rattle.search.specs.Calls.{Advance, AskVerdict}
+use Rattle.clients.proofs.Handling.{begins}
+use Rattle.clients.proofs.Told.{Concluded, concluded, not_open, equal_says, full_says, unlike_says, side_says, writes_front}
+use Rattle.clients.proofs.Patient.{by_turns, one_turn, Ended, ended_in_time, ended_early}
+use Rattle.clients.proofs.benches.patient.Goals.{else-loop-test, then-loop-test+then-not-is_open}
+use Rattle.clients.proofs.benches.patient.Goals as goal
+
+pub loop-init : goal.loop-init
+loop-init g c = begins g.L.Machine.meaning g.R.Machine.meaning (Advance 64) by_turns c.open-bench.result
+
+pub loop-preserved : goal.loop-preserved
+loop-preserved g c = one_turn g.L.Machine.meaning g.R.Machine.meaning c.open-bench.result c.loop.counter _ _ c.loop.bench c.advance.new.self c.loop.invariant c.advance.ensures.called c.verdict.ensures
+
+pub returns : goal.returns
+returns g c =
+    let lefts = g.L.Machine.meaning in
+    let rights = g.R.Machine.meaning in
+    let ended : Ended lefts rights c.open-bench.result c.loop-test.bench = elim c.loop-test.branch [
+      | else-loop-test w ↦ ended_in_time lefts rights c.open-bench.result c.loop.counter c.loop.bench c.loop-test.bench (omega arith) w.bench-is c.loop.invariant
+      | then-loop-test+then-not-is_open w ↦ ended_early lefts rights c.open-bench.result c.loop.counter _ _ c.loop.bench w.advance.new.self c.loop-test.bench w.bench-is
+          c.loop.invariant w.advance.ensures.called w.verdict.ensures (λ e. let shut = w.if-not-is_open.true in cc (shut, w.is_open.ensures.answer.1 e))
+    ] in
+    let done : Concluded (lefts c.args.left) (rights c.args.right) c.verdict-verdict.result c.show.result c.args.buffer.now c.show.new.buffer =
+    concluded lefts rights c.open-bench.result c.loop-test.bench _ ended.come.answers ended.grants ended.come.run _ _ _ _ c.verdict-verdict.ensures c.show.ensures
+    c.args.left c.args.right c.open-bench.ensures.machines c.open-bench.ensures.truth c.open-bench.ensures.unlike ended.fallen
+    in
+    let length = c.unwrap_or-length.ensures in
+    record {
+      decided = not_open _ _ _ _ _ _ done;
+      equal = equal_says _ _ _ _ _ _ done;
+      full = full_says _ _ _ _ _ _ done;
+      unlike = unlike_says _ _ _ _ _ _ done;
+      sided = rw length (side_says _ _ _ _ _ _ done (Prim.search rules));
+      later_bytes_stay = rw length (writes_front _ _ _ _ _ _ done (Prim.search rules));
+    }
