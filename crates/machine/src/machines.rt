@@ -33,7 +33,7 @@ pub trait Machine {
 
 /// The position to which a show leads from the start.
 pub fn leads_to<M: Machine>(machine: &M, show: &[u8]) -> u64
-    ensures { result ≡ leads_to (M.Machine.meaning machine.now).steps show.now }
+    ensures { result ≡ leads_to (M.meaning machine.now).steps show.now }
 {
     show.iter().fold(
         machine.start(),
@@ -43,15 +43,14 @@ pub fn leads_to<M: Machine>(machine: &M, show: &[u8]) -> u64
 
 /// Whether the machine allows a show: it may close where the show leads.
 pub fn allows<M: Machine>(machine: &M, show: &[u8]) -> bool
-    ensures { result ≡ allowed (M.Machine.meaning machine.now) show.now }
+    ensures { result ≡ allowed (M.meaning machine.now) show.now }
 {
     machine.may_close(leads_to(machine, show))
 }
 
 /// Whether a show divides (distinguishes) two machines: exactly one of them allows it.
 pub fn divides<L: Machine, R: Machine>(left: &L, right: &R, show: &[u8]) -> bool
-    ensures { IsTrue result
-        ↔ Divides (L.Machine.meaning left.now) (R.Machine.meaning right.now) show.now }
+    ensures { IsTrue result ↔ Divides (L.meaning left.now) (R.meaning right.now) show.now }
 {
     allows(left, show) != allows(right, show)
 }
