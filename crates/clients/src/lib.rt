@@ -7,6 +7,14 @@ mod benches;
 mod comparisons;
 mod drafts;
 mod sheets;
+mod shows;
 mod tables;
 mod templates;
 mod watches;
+
+pub use shows::{earlier_of, earliest_of, is_same_show, order_behind};
+pub use tables::{
+    cells, filled_alike, first_fault, flight_closes_past_its_states, flight_leads_past_its_states,
+    made_as_filled, new_allows, replaced,
+};
+pub use watches::{all_cues, allows_rest, closed_at_once, place_of, rehearsed};
