@@ -1,15 +1,15 @@
 -- Shows that a watch hears whole.
 -- Assumes nothing.
-use Rattle.std.specs.Prelude.{◌≡◌, ◌≤◌, List, length, Result, Ok}
+use Rattle.std.specs.Prelude.{◌≡◌, ℕ, ◌≤◌, List, length, Ok}
 use Rattle.std.specs.List.{AllByRecursion}
 use Rattle.machine.specs.Show.{Show, Cued}
 use Rattle.machine.specs.Meaning.{Meaning}
-use Rattle.machine.specs.declared.watches.CueRefusal.{CueRefusal}
+use Rattle.machine.specs.Watch.{Standing, answers}
 
 -- A show of the machine's cues, no longer than a show may be.
 abbrev pub FitsAShow : Meaning → Show → Type 0
 FitsAShow m s = Cued m.steps.cues s × (length s ≤ 10000)
 
--- No call was turned down.
-abbrev pub AllTaken : List (Result Unit CueRefusal) → Type 0
-AllTaken answers = AllByRecursion (λ a. a ≡ Ok tt) answers
+-- No call is turned down, one after the other.
+abbrev pub AllTaken : {M : Type 0} → (M → Meaning) → Standing M → List ℕ → Type 0
+AllTaken meaning w calls = AllByRecursion (λ a. a ≡ Ok tt) (answers meaning w calls)

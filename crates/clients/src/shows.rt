@@ -13,8 +13,7 @@ pub fn earlier_of<'a>(s: &'a [u8], t: &'a [u8]) -> &'a [u8]
     shows_stand_in_one_order();
     match show_order(t, s) {
         Ordering::Less => t,
-        Ordering::Equal => s,
-        Ordering::Greater => s,
+        Ordering::Equal | Ordering::Greater => s,
     }
 }
 
@@ -33,11 +32,7 @@ pub fn is_same_show(s: &[u8], t: &[u8]) -> bool
     ensures { IsTrue result ↔ (s.now ≡ t.now) }
 {
     shows_stand_in_one_order();
-    match show_order(s, t) {
-        Ordering::Less => false,
-        Ordering::Equal => true,
-        Ordering::Greater => false,
-    }
+    show_order(s, t) == Ordering::Equal
 }
 
 /// Places two shows with one more cue each, which need not be written out: by what they were, and of one and the same show by

@@ -1,7 +1,7 @@
 //! Uses of watches, and of what any machine says of a show.
 ghost use Rattle.std.specs.Prelude.{◌≡◌, ◌^◌, ◌+◌, [], ◌++◌, length, true};
 ghost use Rattle.machine.specs.Meaning.{allowed, leads_to};
-ghost use Rattle.machine.specs.Watch.{standing, after_cues, answers};
+ghost use Rattle.machine.specs.Watch.{standing, after_cues};
 ghost use Rattle.clients.specs.Watches.{FitsAShow, AllTaken};
 
 use machine::{Closed, Machine, Watch, allows};
@@ -67,7 +67,8 @@ pub fn all_cues<M: Machine>(machine: &M) -> u32
 fn hears<M: Machine>(watch: &mut Watch<M>, calls: &[u8]) -> bool
     ensures each_is_called { standing watch.new
         ≡ after_cues M.Machine.meaning (standing watch.old) calls.now }
-    ensures true_if_all_are_taken { AllTaken (answers M.Machine.meaning (standing watch.old) calls.now) → result ≡ true }
+    ensures true_if_all_are_taken { AllTaken M.Machine.meaning (standing watch.old) calls.now
+        → result ≡ true }
 {
     let mut is_taken = true;
     for call in calls {
