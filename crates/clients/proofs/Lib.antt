@@ -4,3 +4,4 @@ pub mod Told
 pub mod Patient
 pub mod InOrder
 pub mod LowBits
+pub mod Rules

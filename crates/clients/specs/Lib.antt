@@ -1,3 +1,4 @@
 pub mod Comparing
 pub mod Tables
 pub mod Watches
+pub mod Rules

@@ -1,10 +1,10 @@
 //! Uses of rules and their templates.
-ghost use Rattle.std.specs.Prelude.{◌≡◌, ◌<◌, ◌≤◌, ◌↔◌, Some, IsTrue, IfSome, IfNone};
+ghost use Rattle.std.specs.Prelude.{ℕ, ◌≡◌, ◌<◌, ◌≤◌, ◌↔◌, Some, slice_get, IsTrue, IfSome, IfNone};
 ghost use Rattle.rules.specs.Rule.{terms};
-ghost use Rattle.rules.specs.States.{Numbers, OverItsLetters};
-ghost use Rattle.rules.specs.Word.{Word};
 ghost use Rattle.rules.specs.Rule.{Terms};
-ghost use Rattle.clients.specs.Rules.{HangsOnCount, HangsOnB, CalledAtLeast, EndsWith, EachAnswered, Inseparable, ReachedNoLater, Reached};
+ghost use Rattle.rules.specs.States.{OverItsLetters, Numbers};
+ghost use Rattle.rules.specs.Word.{Word};
+ghost use Rattle.clients.specs.Rules.{HangsOnCount, HangsOnB, CalledAtLeast, EndsWith, EachAnswered, word_state, Inseparable, Reached, ReachedNoLater};
 
 use machine::Numbered;
 use rules::{Arguments, Letter, Rule, Template, words_told_apart};
@@ -74,4 +74,89 @@ pub fn each_answered(a: u8, b: u8, show: &[u8]) -> Option<bool>
 {
     let rule = Rule::new(Template::Response, a, b, 0).ok()?;
     Some(rule.holds(show))
+}
+
+/// The state to which a word leads a rule.
+pub fn state_after(rule: Rule, word: &[Letter]) -> u8
+    ensures { result ≡ word_state (terms rule) word.now }
+{
+    word.iter()
+        .fold(0, |state, &letter| rule.step(state, letter))
+}
+
+/// Whether two words lead a rule to one state: just then nothing behind both tells them apart.
+pub fn lead_to_one_state(rule: Rule, u: &[Letter], v: &[Letter]) -> bool
+    ensures { IsTrue result ↔ Inseparable (terms rule) u.now v.now }
+{
+    let _states = rule.states();
+    state_after(rule, u) == state_after(rule, v)
+}
+
+/// Looks up what is noted in 16 places for the state to which a word leads. No word leads past them.
+pub fn noted_after(rule: Rule, word: &[Letter], notes: &[u8; 16]) -> u8
+    ensures { slice_get notes.now (word_state (terms rule) word.now) ≡ Some result }
+{
+    let _states = rule.states();
+    notes[usize::from(state_after(rule, word))]
+}
+
+/// Whether some word leads to a state: whether it is one of the rule's.
+pub fn is_reached(rule: Rule, state: u8) -> bool
+    ensures { IsTrue result ↔ Reached (terms rule) state }
+{
+    state < rule.states()
+}
+
+/// Whether a word leads to a later state than a given one: then a word that is no longer leads to that.
+pub fn is_past(rule: Rule, word: &[Letter], state: u8) -> bool
+    ensures { OverItsLetters (terms rule).template word.now → IsTrue result → ReachedNoLater (terms rule) word.now state }
+{
+    let _states = rule.states();
+    state < state_after(rule, word)
+}
+
+/// A state past a rule's last leads nowhere else, and no show may close there.
+pub fn past_the_last_is_shut(rule: Rule, state: u8, letter: Letter) -> bool
+    ensures { IsTrue result }
+{
+    state < rule.states() || rule.step(state, letter) == state && !rule.closes(state)
+}
+
+/// Where a template takes no B, the letter B leads where other leads.
+pub fn b_leads_as_other(rule: Rule, state: u8) -> bool
+    ensures { IsTrue result }
+{
+    let _states = rule.states();
+    rule.template().arguments() == Arguments::TwoCues
+        || rule.step(state, Letter::B) == rule.step(state, Letter::Other)
+}
+
+/// A way to number the words over a rule's letters: two words have one number exactly when nothing behind both tells them apart,
+/// and numbers are given in the order in which words first reach them.
+pub trait Numbering {
+    /// What the rule says.
+    ghost of_rule: { Self → Terms };
+
+    /// The number of a word.
+    ghost number_of: { Self → Word → ℕ };
+
+    /// The rule whose words are numbered.
+    fn rule(&self) -> Rule
+        ensures { terms result ≡ of_rule self.now };
+
+    /// The number of a word.
+    fn number(&self, word: &[Letter]) -> u8
+        ensures { result ≡ number_of self.now word.now };
+
+    /// Words are numbered as a rule's states are.
+    ghost by_first_reach: { (x : Self) → Numbers (of_rule x).template (of_rule x).n (number_of x) };
+}
+
+/// Whatever way to number words is taken, a word over the rule's letters has the number of the state to which it leads.
+pub fn numbered_as_states<N: Numbering>(numbering: &N, word: &[Letter]) -> bool
+    ensures { OverItsLetters (N.of_rule numbering.now).template word.now → IsTrue result }
+{
+    let rule = numbering.rule();
+    let _states = rule.states();
+    numbering.number(word) == state_after(rule, word)
 }
