@@ -53,9 +53,13 @@ impl Error for AnswerError {}
 // read stands at the front of the buffer just the same. The reader is asked at most 2^64 - 1 times.
 fn fill<R: Read>(reader: &mut R, buffer: &mut [u8]) -> io::Result<usize>
     ensures within_the_buffer { IfOk result (λ n. n ≤ length buffer.old) }
-    ensures front_is_there { IfOk result (λ n. StandsInFront (R.remaining reader.old) (length buffer.old) n buffer.new) }
-    ensures no_more_taken { IfOk result (λ n. Consumes (R.remaining reader.old) (R.remaining reader.new) (take n buffer.new)) }
-    ensures failed_after_some { IfErr result (λ _. TakenSoFar (R.remaining reader.old) (R.remaining reader.new) (length buffer.old) buffer.new) }
+    ensures front_is_there { IfOk result (λ n.
+        StandsInFront (R.remaining reader.old) (length buffer.old) n buffer.new) }
+    ensures no_more_taken { IfOk result (λ n.
+        Consumes (R.remaining reader.old) (R.remaining reader.new) (take n buffer.new)) }
+    ensures failed_after_some { IfErr result (λ _.
+        TakenSoFar (R.remaining reader.old) (R.remaining reader.new)
+        (length buffer.old) buffer.new) }
     ensures interruption_retried { IfErr result (λ e. error_kind e ≢ ErrorKind.Interrupted) }
 {
     let mut filled = 0;
@@ -76,9 +80,13 @@ fn fill<R: Read>(reader: &mut R, buffer: &mut [u8]) -> io::Result<usize>
 /// Answers the sheet that there is to read: writes what is to be printed for it, and nothing else. Where reading fails, nothing is
 /// written.
 pub fn answer<R: Read, W: Write>(reader: &mut R, writer: &mut W) -> Result<(), AnswerError>
-    ensures reads_enough { OnOk result (ReadsEnough (R.remaining reader.old) (R.remaining reader.new)) }
-    ensures writes_the_answer { OnOk result (Answers (R.remaining reader.old) (W.contents writer.old) (W.contents writer.new)) }
-    ensures fails_as_told { IfErr result (NotAnswered (R.remaining reader.old) (R.remaining reader.new) (W.contents writer.old) (W.contents writer.new)) }
+    ensures reads_enough { OnOk result
+        (ReadsEnough (R.remaining reader.old) (R.remaining reader.new)) }
+    ensures writes_the_answer { OnOk result
+        (Answers (R.remaining reader.old) (W.contents writer.old) (W.contents writer.new)) }
+    ensures fails_as_told { IfErr result
+        (NotAnswered (R.remaining reader.old) (R.remaining reader.new)
+        (W.contents writer.old) (W.contents writer.new)) }
 {
     let mut buffer = [0; ENOUGH];
     let count = fill(reader, &mut buffer).map_err(AnswerError::Reading)?;

@@ -53,12 +53,12 @@ impl<L, R> fmt::Display for Decision<L, R> {
 /// Decides two machines: sets them on a bench, grants all that a verdict can need, and writes the show found to the front of a
 /// buffer.
 pub fn decide<L: Machine, R: Machine>(left: L, right: R, buffer: &mut [u8]) -> Decision<L, R>
-    ensures machines { (result.left ≡ left) × (result.right ≡ right) }
-    ensures truth { (L.Machine.meaning left).steps.cues ≡ (R.Machine.meaning right).steps.cues →
+    ensures machines_given_back { (result.left ≡ left) × (result.right ≡ right) }
+    ensures decided_where_alike { (L.Machine.meaning left).steps.cues ≡ (R.Machine.meaning right).steps.cues →
         Decided (L.Machine.meaning left) (R.Machine.meaning right) result buffer.old buffer.new }
-    ensures unlike { ((L.Machine.meaning left).steps.cues ≢ (R.Machine.meaning right).steps.cues) →
+    ensures not_compared_where_unlike { ((L.Machine.meaning left).steps.cues ≢ (R.Machine.meaning right).steps.cues) →
         NotCompared result buffer.old buffer.new }
-    ensures fits { IfOk result.length (λ n. n ≤ length buffer.old) }
+    ensures show_fits { IfOk result.length (λ n. n ≤ length buffer.old) }
 {
     let mut bench = Bench::open(left, right);
     bench.advance(LIMIT);
@@ -82,12 +82,12 @@ pub(crate) fn decide_watched<L: Machine, R: Machine>(
     right: R,
     buffer: &mut [u8],
 ) -> Decision<L, R>
-    ensures machines { (result.left ≡ left) × (result.right ≡ right) }
-    ensures truth { (L.Machine.meaning left).steps.cues ≡ (R.Machine.meaning right).steps.cues →
+    ensures machines_given_back { (result.left ≡ left) × (result.right ≡ right) }
+    ensures decided_where_alike { (L.Machine.meaning left).steps.cues ≡ (R.Machine.meaning right).steps.cues →
         Decided (L.Machine.meaning left) (R.Machine.meaning right) result buffer.old buffer.new }
-    ensures unlike { ((L.Machine.meaning left).steps.cues ≢ (R.Machine.meaning right).steps.cues) →
+    ensures not_compared_where_unlike { ((L.Machine.meaning left).steps.cues ≢ (R.Machine.meaning right).steps.cues) →
         NotCompared result buffer.old buffer.new }
-    ensures fits { IfOk result.length (λ n. n ≤ length buffer.old) }
+    ensures show_fits { IfOk result.length (λ n. n ≤ length buffer.old) }
 {
     let (left, left_slip) = Watch::begin(left);
     let (right, right_slip) = Watch::begin(right);

@@ -10,8 +10,8 @@ impl Finding {
     // What is found, by the verdict and the show.
     pub(crate) fn new(verdict: Verdict, show: FoundShow) -> Finding
         requires { (verdict ≢ Open) × (verdict ≢ Unlike) }
-        ensures verdict { verdict_of result ≡ verdict }
-        ensures show { IfShown result (λ t. t ≡ show) }
+        ensures has_this_verdict { verdict_of result ≡ verdict }
+        ensures has_this_show { IfShown result (λ t. t ≡ show) }
     {
         match verdict {
             Verdict::Equal => Finding::Equal,
@@ -36,7 +36,8 @@ impl Finding {
 
     /// The show found, where there is one.
     pub fn show(&self) -> Option<&[u8]>
-        ensures { MatchOption result (shown self.now ≡ None) (λ t. shown self.now ≡ Some t.now) }
+        ensures { MatchOption result (shown self.now ≡ None)
+            (λ t. shown self.now ≡ Some t.now) }
     {
         match self {
             Finding::Left(show) | Finding::Right(show) => Some(show.cues()),

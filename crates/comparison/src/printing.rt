@@ -41,7 +41,8 @@ impl fmt::Display for ShowLine<'_, '_> {
 
 // The verdict with its tally, and the show found, where there is one.
 impl fmt::Display for Report<'_> {
-    ghost output = { λ report. Some (report_text (names_of report.names) report.finding report.tally) };
+    ghost output = { λ report.
+        Some (report_text (names_of report.names) report.finding report.tally) };
 
     fn fmt<W: fmt::Write>(&self, f: &mut fmt::Formatter<W>) -> fmt::Result {
         let verdict = self.finding.verdict();

@@ -1,6 +1,6 @@
 -- Lines that are read, and what is read of them.
 -- Assumes nothing.
-use Rattle.std.specs.Prelude.{◌≡◌, ℕ, ◌≤◌, ◌++◌, List, [], ◌∷◌, Option, Some, option_map, Result, MatchResult, MatchOption, min}
+use Rattle.std.specs.Prelude.{◌≡◌, ℕ, ◌≤◌, ◌++◌, List, [], ◌∷◌, Option, Some, option_map, Result, MatchResult, MatchOption, min, ⊤}
 use Rattle.rules.specs.declared.templates.Arguments.{Arguments}
 use Rattle.rules.specs.declared.templates.Template.{Template}
 use Rattle.rules.specs.Naming.{template_word}
@@ -12,8 +12,8 @@ use Rattle.sheet.specs.declared.fields.Field.TheVariants.{Name, Number}
 use Rattle.sheet.specs.declared.lines.Line.{Line}
 use Rattle.sheet.specs.declared.names.Names.{Names}
 use Rattle.sheet.specs.declared.stretches.Stretch.{Stretch}
-use Rattle.sheet.specs.Fault.{NameFails, IsArguments, SectionFails}
-use Rattle.sheet.specs.Fields.{rest_in, Begins, SecondIs}
+use Rattle.sheet.specs.Fault.{NameFails, IsName, IsArguments, SectionFails}
+use Rattle.sheet.specs.Fields.{rest_in, Begins, Follows, SecondIs}
 use Rattle.sheet.specs.Names.{Named, field_text, fields_of, names_of}
 use Rattle.sheet.specs.Sheet.{section_line, name_line}
 use Rattle.sheet.specs.Text.{Text, NameForm, WordForm}
@@ -24,6 +24,11 @@ rest_of l = rest_in l.rest
 
 abbrev pub fields_in : Option Line → Option (List Text)
 fields_in line = option_map rest_of line
+
+-- The next field of what is left of a line, where one is left, and what is left behind it.
+abbrev pub NextField : Option Stretch → Line → Line → Type 0
+NextField found before after = MatchOption found ((rest_in before.rest ≡ []) × (after ≡ before))
+    (λ s. (rest_in before.rest ≡ s.text.now ∷ rest_in after.rest) × Begins before.rest s × Follows s after.rest)
 
 -- Reading a section's line: its count, within the limits; or why it fails.
 abbrev pub ReadSection : Result ℕ Refusal → Text → ℕ → ℕ → Option (List Text) → Type 0
@@ -74,6 +79,10 @@ pub record OnlyName (line : Option Line) (s : Stretch) : Type 0 where
   pub form : NameForm s.text.now
   pub reads : fields_in line ≡ Some (name_line s.text.now)
   pub stands : StandsFirst line s
+
+-- Looking for a name that is all of a line: its field; or none, where the line has not that form.
+abbrev pub FindsOnlyName : Option Field → Option Line → Type 0
+FindsOnlyName found line = MatchOption found (IsName (λ x. ⊤) (fields_in line) → ⊥) (λ f. (s : Stretch) × (f ≡ Name s) × OnlyName line s)
 
 -- Reading a name's line: the name, taken last; or why it fails, and the names are as they were.
 abbrev pub ReadName : Result Unit Refusal → Option Line → Names → Names → Type 0

@@ -48,12 +48,11 @@ AcceptedWhenWritten answer sheet = (s : Comparison) → Accepts answer s ↔ (We
 abbrev pub RefusedByItsFault : Result Sheet Fault → Text → Type 0
 RefusedByItsFault answer sheet = (f : Fault) → Refuses answer f ↔ FaultOf sheet f
 
--- A theorem that reading carries: of a draft's refusals, a sheet's fault is one of these two at most, a count outside its limits or one
--- cue twice.
+-- Of a draft's refusals, a sheet's fault is one of these two at most: a count outside its limits, or one cue twice.
 unfoldable pub OnlyTheseOfADraft : Type 0
 OnlyTheseOfADraft = (sheet : Text) (f : Fault) (e : DraftRefusal) → FaultOf sheet f → f.refusal ≡ refusal.Draft e → (e ≡ draft.CountOutside) ⊎ (e ≡ draft.SameCue)
 
--- A theorem that reading carries: no sheet that is well formed has more bytes than these, which are fewer than a sheet may have.
+-- No sheet that is well formed has more bytes than these, which are fewer than a sheet may have.
 unfoldable pub NoneIsLonger : Type 0
 NoneIsLonger = (s : Comparison) → WellFormed s → length (written s) ≤ 2329
 

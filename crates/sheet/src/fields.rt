@@ -1,8 +1,9 @@
 //! The fields of a line.
-ghost use Rattle.std.specs.Prelude.{◌≡◌, Some, None, MatchOption};
-ghost use Rattle.sheet.specs.declared.fields.Field.TheVariants.{Word, Name, Number};
+ghost use Rattle.std.specs.Prelude.{◌≡◌};
+ghost use Rattle.sheet.specs.declared.fields.Field.TheVariants.{Word, Name};
+ghost use Rattle.sheet.specs.Fields.{ReadField, ReadNumber};
 ghost use Rattle.sheet.specs.Names.{field_stretch, field_text, field_line, field_at};
-ghost use Rattle.sheet.specs.Text.{WordForm, NameForm, IsCount, most_count};
+ghost use Rattle.sheet.specs.Text.{WordForm, NameForm};
 
 use crate::forms::{count, is_name, is_word};
 use crate::stretches::Stretch;
@@ -21,28 +22,28 @@ pub enum Field<'a> {
 impl<'a> Field<'a> {
     // Reads a part of a line as a word.
     pub(crate) fn word(text: Stretch<'a>) -> Option<Field<'a>>
-        ensures { MatchOption result (WordForm text.entry.text.now → ⊥) (λ f. (f ≡ Word text.entry) × WordForm text.entry.text.now) }
+        ensures { ReadField result (Word text.entry) (WordForm text.entry.text.now) }
     {
         is_word(text.text).then_some(Field::Word(text))
     }
 
     // Reads a part of a line as a word that is given.
     pub(crate) fn this_word(text: Stretch<'a>, word: &[u8]) -> Option<Field<'a>>
-        ensures { MatchOption result (text.entry.text.now ≡ word.now → ⊥) (λ f. (f ≡ Word text.entry) × (text.entry.text.now ≡ word.now)) }
+        ensures { ReadField result (Word text.entry) (text.entry.text.now ≡ word.now) }
     {
         (text.text == word).then_some(Field::Word(text))
     }
 
     // Reads a part of a line as a name.
     pub(crate) fn name(text: Stretch<'a>) -> Option<Field<'a>>
-        ensures { MatchOption result (NameForm text.entry.text.now → ⊥) (λ f. (f ≡ Name text.entry) × NameForm text.entry.text.now) }
+        ensures { ReadField result (Name text.entry) (NameForm text.entry.text.now) }
     {
         is_name(text.text).then_some(Field::Name(text))
     }
 
     // Reads a part of a line as a count.
     pub(crate) fn number(text: Stretch<'a>) -> Option<Field<'a>>
-        ensures { MatchOption result (IsCount None text.entry.text.now) (λ f. (n : _) × (f ≡ Number text.entry n) × IsCount (Some n) text.entry.text.now) }
+        ensures { ReadNumber result text.entry }
     {
         Some(Field::Number(text, count(text.text)?))
     }

@@ -1,6 +1,6 @@
 //! The forms of names, words and counts.
-ghost use Rattle.std.specs.Prelude.{◌≡◌, ◌-◌, ◌<◌, ◌≤◌, ◌⊎◌, ◌↔◌, length, IsTrue, MatchOption};
-ghost use Rattle.sheet.specs.Fields.{NumeralForm, worth};
+ghost use Rattle.std.specs.Prelude.{◌≡◌, ◌-◌, ◌↔◌, IsTrue};
+ghost use Rattle.sheet.specs.Fields.{NumeralForm, WorthOf};
 ghost use Rattle.sheet.specs.Text.{NameForm, WordForm, IsCount};
 
 const LONGEST_NAME: usize = 16;
@@ -37,7 +37,7 @@ fn is_numeral(text: &[u8]) -> bool
 
 // What digits are worth, where there are one to three.
 fn value(digits: &[u8]) -> Option<u16>
-    ensures { MatchOption result (length digits.now ≡ 0 ⊎ 3 < length digits.now) (λ n. (1 ≤ length digits.now) × (length digits.now ≤ 3) × (n ≡ worth digits.now)) }
+    ensures { WorthOf result digits.now }
 {
     match *digits {
         [a] => Some(digit(a)),

@@ -13,6 +13,7 @@ mod rule_lines;
 mod section_lines;
 mod sheets;
 mod stretches;
+mod theorems;
 mod words;
 
 pub use faults::{Fault, Layer, ReaderRefusal, Refusal};
@@ -20,3 +21,4 @@ pub use fields::Field;
 pub use names::Names;
 pub use sheets::{MOST_BYTES, Sheet};
 pub use stretches::Stretch;
+pub use theorems::{none_is_longer, only_two_of_a_draft};

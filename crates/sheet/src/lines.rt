@@ -1,6 +1,6 @@
 //! Lines, read field by field.
-ghost use Rattle.std.specs.Prelude.{◌≡◌, [], ◌∷◌, Some, None, MatchOption};
-ghost use Rattle.sheet.specs.Fields.{InSheet, RestInSheet, Begins, Follows, rest_in};
+ghost use Rattle.std.specs.Prelude.{◌≡◌, Some};
+ghost use Rattle.sheet.specs.Fields.{InSheet, RestInSheet};
 
 use crate::stretches::Stretch;
 
@@ -14,6 +14,8 @@ pub(crate) struct Line<'a> {
 }
 
 impl<'a> Line<'a> {
+    ghost use Rattle.sheet.specs.Lines.{NextField};
+
     // A whole line.
     pub(crate) fn of(text: Stretch<'a>) -> Line<'a>
         requires { InSheet text }
@@ -24,8 +26,7 @@ impl<'a> Line<'a> {
 
     // The next field, where one is left.
     pub(crate) fn field(&mut self) -> Option<Stretch<'a>>
-        ensures { MatchOption result ((rest_in self.old.rest ≡ []) × (self.new ≡ self.old))
-            (λ s. (rest_in self.old.rest ≡ s.text.now ∷ rest_in self.new.rest) × Begins self.old.rest s × Follows s self.new.rest) }
+        ensures { NextField result self.old self.new }
     {
         let rest = self.rest?;
         match rest.cut(SPACE) {

@@ -1,8 +1,6 @@
 //! Reading a name's line.
-ghost use Rattle.std.specs.Prelude.{◌≡◌, ◌<◌, length, ⊤, MatchOption};
-ghost use Rattle.sheet.specs.declared.fields.Field.TheVariants.{Name};
-ghost use Rattle.sheet.specs.Fault.{IsName};
-ghost use Rattle.sheet.specs.Lines.{fields_in, OnlyName, ReadName};
+ghost use Rattle.std.specs.Prelude.{◌<◌, length};
+ghost use Rattle.sheet.specs.Lines.{FindsOnlyName, ReadName};
 ghost use Rattle.sheet.specs.Names.{fields_of};
 
 use crate::faults::{ReaderRefusal, Refusal};
@@ -12,7 +10,7 @@ use crate::names::Names;
 
 // Reads a name's line, and takes the name.
 pub(crate) fn name<'a>(line: Option<Line<'a>>, names: &mut Names<'a>) -> Result<(), Refusal>
-    requires room { length (fields_of names.old) < 32 }
+    requires has_room { length (fields_of names.old) < 32 }
     ensures { ReadName result line.entry names.old names.new }
 {
     let name = only_name(line).ok_or(ReaderRefusal::NotInForm)?;
@@ -27,7 +25,7 @@ pub(crate) fn name<'a>(line: Option<Line<'a>>, names: &mut Names<'a>) -> Result<
 
 // The name of a line that has nothing else.
 fn only_name(line: Option<Line<'_>>) -> Option<Field<'_>>
-    ensures { MatchOption result (IsName (λ x. ⊤) (fields_in line.entry) → ⊥) (λ f. (s : _) × (f ≡ Name s) × OnlyName line.entry s) }
+    ensures { FindsOnlyName result line.entry }
 {
     let mut line = line?;
     let name = Field::name(line.field()?)?;

@@ -32,7 +32,7 @@ pub(crate) fn rule(
     names: &Names<'_>,
     draft: &mut Draft,
 ) -> Result<(), Refusal>
-    requires cues { (draft_content draft.old).cues ≡ length (names_of names.now) }
+    requires same_cues { (draft_content draft.old).cues ≡ length (names_of names.now) }
     ensures { ReadRule result (names_of names.now) (fields_in line.entry) draft.old draft.new }
 {
     let Asked { template, a, b, n } = asked_by(line, names)?;

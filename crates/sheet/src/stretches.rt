@@ -1,7 +1,6 @@
 //! Parts of a sheet, with their places.
-ghost use Rattle.std.specs.Prelude.{◌≡◌, ◌+◌, [], ◌∷◌, ◌++◌, length, position, eqb, MatchOption};
-ghost use Rattle.sheet.specs.Fields.{InSheet};
-ghost use Rattle.sheet.specs.Text.{parts};
+ghost use Rattle.std.specs.Prelude.{◌≡◌, [], position, eqb};
+ghost use Rattle.sheet.specs.Fields.{InSheet, CutAtFirst};
 
 /// A part of a sheet with its place: the line in which it stands, from 1, and the byte at which it begins, from 0.
 #[derive(Clone, Copy)]
@@ -27,10 +26,7 @@ impl<'a> Stretch<'a> {
     #[tactic(auto, using(crate::proofs::Cut::uncut))]
     pub(crate) fn cut(&self, byte: u8) -> Option<(Stretch<'a>, Stretch<'a>)>
         requires { InSheet self.now }
-        ensures { MatchOption result (parts byte self.now.text.now ≡ self.now.text.now ∷ [])
-            (λ p. (parts byte self.now.text.now ≡ p.0.text.now ∷ parts byte p.1.text.now)
-            × (self.now.text.now ≡ p.0.text.now ++ byte ∷ p.1.text.now) × (p.0.line ≡ self.now.line) × (p.0.at ≡ self.now.at)
-            × (p.1.line ≡ self.now.line) × (p.1.at ≡ self.now.at + length p.0.text.now + 1)) }
+        ensures { CutAtFirst result byte self.now }
     {
         let end = first(byte, self.text)?;
         let before = Stretch {

@@ -15,7 +15,8 @@ impl<'a> Names<'a> {
 
     /// The field in which the name of a cue stands, where there is such a cue.
     pub fn field(&self, cue: u8) -> Option<Field<'a>>
-        ensures { MatchOption result (length (fields_of self.now) ≤ cue) (λ f. slice_get (fields_of self.now) cue ≡ Some f) }
+        ensures { MatchOption result (length (fields_of self.now) ≤ cue)
+            (λ f. slice_get (fields_of self.now) cue ≡ Some f) }
     {
         if cue < self.count {
             Some(self.fields[usize::from(cue)])
@@ -26,7 +27,8 @@ impl<'a> Names<'a> {
 
     /// The name of a cue, where there is such a cue.
     pub fn name(&self, cue: u8) -> Option<&'a [u8]>
-        ensures { MatchOption result (length (names_of self.now) ≤ cue) (λ x. slice_get (names_of self.now) cue ≡ Some x.now) }
+        ensures { MatchOption result (length (names_of self.now) ≤ cue)
+            (λ x. slice_get (names_of self.now) cue ≡ Some x.now) }
     {
         Some(self.field(cue)?.text())
     }

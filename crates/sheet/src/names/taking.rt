@@ -19,7 +19,7 @@ impl<'a> Names<'a> {
 
     // Takes one name more, as the last.
     pub(crate) fn push(&mut self, name: Field<'a>)
-        requires room { length (fields_of self.old) < 32 }
+        requires has_room { length (fields_of self.old) < 32 }
         ensures { fields_of self.new ≡ fields_of self.old ++ name.entry ∷ [] }
     {
         self.fields[usize::from(self.count)] = name;

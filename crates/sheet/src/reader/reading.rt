@@ -42,7 +42,7 @@ impl<'a> Reader<'a> {
 
     // Reads all of a sheet.
     pub(crate) fn whole(mut self) -> Result<Sheet<'a>, Fault>
-        requires start { AtStart self }
+        requires at_start { AtStart self }
         ensures { ReadWhole result self.entry.sheet.now }
     {
         let names = self.names()?;
@@ -66,7 +66,7 @@ impl<'a> Reader<'a> {
 
     // Reads the section of a book over names.
     fn book(&mut self, word: &[u8], names: &Names<'a>) -> Result<Draft, Fault>
-        requires some { 1 ≤ length (names_of names.now) }
+        requires has_a_name { 1 ≤ length (names_of names.now) }
         ensures { ReadBook result word.now (names_of names.now) self.old self.new }
     {
         let count = self.section(word, 0, MOST_RULES)?;
@@ -79,7 +79,8 @@ impl<'a> Reader<'a> {
 
     // Looks for bytes after the last line.
     fn end(&self) -> Result<(), Fault>
-        ensures { MatchResult result (λ _. self.now.at ≡ length self.now.sheet.now) (λ f. FaultAfter [] EndDue self.now f) }
+        ensures { MatchResult result (λ _. self.now.at ≡ length self.now.sheet.now)
+            (λ f. FaultAfter [] EndDue self.now f) }
     {
         if self.at < self.sheet.len() {
             return Err(Fault {
@@ -92,7 +93,8 @@ impl<'a> Reader<'a> {
 
     // Reads a section's line: its count, within limits.
     fn section(&mut self, word: &[u8], least: u8, most: u8) -> Result<u8, Fault>
-        ensures { ReadLine result (λ n fs. (least ≤ n) × (n ≤ most) × (fs ≡ section_line word.now n)) (SectionDue word.now least most) self.old self.new }
+        ensures { ReadLine result (λ n fs. (least ≤ n) × (n ≤ most) × (fs ≡ section_line word.now n))
+            (SectionDue word.now least most) self.old self.new }
     {
         let line = self.line;
         section(self.line(), word, least, most).map_err(|refusal| Fault { refusal, line })
@@ -100,8 +102,9 @@ impl<'a> Reader<'a> {
 
     // Reads a name's line, and takes the name.
     fn name(&mut self, names: &mut Names<'a>) -> Result<(), Fault>
-        requires room { length (fields_of names.old) < 32 }
-        ensures { ReadLine result (λ _ fs. TakesName self.old names.old names.new fs) (NameDue (names_of names.old)) self.old self.new }
+        requires has_room { length (fields_of names.old) < 32 }
+        ensures { ReadLine result (λ _ fs. TakesName self.old names.old names.new fs)
+            (NameDue (names_of names.old)) self.old self.new }
     {
         let line = self.line;
         name(self.line(), names).map_err(|refusal| Fault { refusal, line })
@@ -109,7 +112,7 @@ impl<'a> Reader<'a> {
 
     // Reads a rule's line, and takes the rule.
     fn rule(&mut self, names: &Names<'a>, draft: &mut Draft) -> Result<(), Fault>
-        requires cues { (draft_content draft.old).cues ≡ length (names_of names.now) }
+        requires same_cues { (draft_content draft.old).cues ≡ length (names_of names.now) }
         ensures { ReadLine result (λ _ fs. TakesRule (names_of names.now) draft.old draft.new fs)
             (RuleDue (names_of names.now) (draft_content draft.old).rules) self.old self.new }
     {

@@ -12,6 +12,6 @@ returns c = λ s holds formed. report_of _ c.args.sheet s _ _ holds c.seal.ensur
       positions = c.seal.ensures.one_position_unless_told_apart;
       also_allows = c.seal-2.ensures.allows_what_holds;
       also_positions = c.seal-2.ensures.one_position_unless_told_apart;
-      finding = c.books_compared-finding.ensures.finding;
-      tally = c.books_compared-finding.ensures.tally;
+      finding = c.books_compared-finding.ensures.finds_what_is_so;
+      tally = c.books_compared-finding.ensures.tally_is_theirs;
     })

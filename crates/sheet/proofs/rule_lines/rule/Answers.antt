@@ -16,4 +16,4 @@ pub returns : goal.returns
 returns c =
     let asked = c.in_ok-template.field-0 in
     let asks : AsksFor (names_of c.args.names.now) (fields_in c.args.line) asked.template asked.a asked.b asked.n = Prim.search rules in
-    added _ _ asked.template asked.a asked.b asked.n (draft_content c.args.draft.now) (draft_content c.add.new.self) asks c.requires.cues (rw c.number.ensures at c.in_ok-add.ensures)
+    added _ _ asked.template asked.a asked.b asked.n (draft_content c.args.draft.now) (draft_content c.add.new.self) asks c.requires.same_cues (rw c.number.ensures at c.in_ok-add.ensures)

@@ -4,4 +4,4 @@ use Rattle.sheet.proofs.Places.{fields_long}
 use Rattle.sheet.proofs.names.Names.push.Goals as goal
 
 pub returns : goal.returns
-returns c = rw c.from.ensures (take-set_at c.args.self.now.fields c.args.self.now.count _ c.args.name refl (omega (arith, c.requires.room, fields_long c.args.self.now, c.args.self.now.places)))
+returns c = rw c.from.ensures (take-set_at c.args.self.now.fields c.args.self.now.count _ c.args.name refl (omega (arith, c.requires.has_room, fields_long c.args.self.now, c.args.self.now.places)))
