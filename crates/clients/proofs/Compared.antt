@@ -12,9 +12,8 @@ use Rattle.search.specs.declared.states.ShowRefusal.{ShowRefusal}
 use Rattle.search.specs.declared.states.ShowRefusal.TheVariants.{NoShow, TooShort}
 use Rattle.search.specs.Calls.{Answer, Written}
 use Rattle.search.specs.Rank.{NoLater, jointly, NoneDivides, MoreThan, AtMost, LeadsToOneOf, FirstInRank, NoneOfTheFirst}
-use Rattle.search.specs.Truth.{FirstDifference, AllEqual, TooMany, TrueVerdict}
+use Rattle.search.specs.Truth.{Names, FirstDifference, AllEqual, TooMany, TrueVerdict}
 use Rattle.search.specs.Runs.{Shown, ShowTold}
-use Rattle.bench.specs.Cells.{limit}
 use Rattle.clients.specs.Comparing.{Agree, AgreeThroughout, LeadAlike, ManyApart, LeadsBack, LeadFirst, AgreeAtFirst, DifferFirst, AllowsFirst}
 
 -- Two answers of yes or no are the same, or one alone is yes.
@@ -44,21 +43,21 @@ module _ (l r : Meaning) where
   not_both s e (inr (a, b)) = a (rw e b)
 
   -- Shows that lead to one joint position lead both machines to the same positions, and the other way round.
-  pub alike : (s t : Show) → jointly l r s ≡ jointly l r t → LeadAlike l r s t
+  pub alike : (s t : Show) → jointly l.steps r.steps s ≡ jointly l.steps r.steps t → LeadAlike l r s t
   alike s t e = (ap (λ p. p.left) e, ap (λ p. p.right) e)
 
-  pub one_pair : (s t : Show) → LeadAlike l r s t → jointly l r s ≡ jointly l r t
-  one_pair s t (e, f) = ap (λ x. record { left = x; right = leads_to r s }) e ∙ ap (λ x. record { left = leads_to l t; right = x }) f
+  pub one_pair : (s t : Show) → LeadAlike l r s t → jointly l.steps r.steps s ≡ jointly l.steps r.steps t
+  one_pair s t (e, f) = ap (λ x. record { left = x; right = leads_to r.steps s }) e ∙ ap (λ x. record { left = leads_to l.steps t; right = x }) f
 
   -- So many shows apart lead to so many joint positions.
-  pub many_apart : (k : ℕ) → MoreThan l r k → ManyApart l r (suc k)
+  pub many_apart : (k : ℕ) → MoreThan l.steps r.steps k → ManyApart l r (suc k)
   many_apart k more = record {
     shows = more.shows;
     cued = λ i h. more.playable i (omega arith);
     apart = λ i j h low e. more.apart i j h (omega arith) (one_pair (more.shows i) (more.shows j) e);
   }
 
-  pub more_than : (k : ℕ) → ManyApart l r (suc k) → MoreThan l r k
+  pub more_than : (k : ℕ) → ManyApart l r (suc k) → MoreThan l.steps r.steps k
   more_than k many = record {
     shows = many.shows;
     playable = λ i h. many.cued i (omega arith);
@@ -66,10 +65,10 @@ module _ (l r : Meaning) where
   }
 
   -- The first shows of the first joint positions in rank are the first to lead where they lead.
-  leads_back : (k : ℕ) (shows : ℕ → Show) (t : Show) → LeadsToOneOf l r k shows t → LeadsBack l r k shows t
+  leads_back : (k : ℕ) (shows : ℕ → Show) (t : Show) → LeadsToOneOf l.steps r.steps k shows t → LeadsBack l r k shows t
   leads_back k shows t (i, h, e, late) = (i, h, alike t (shows i) e, late)
 
-  pub lead_first : (k : ℕ) (shows : ℕ → Show) → FirstInRank l r k shows → LeadFirst l r k shows
+  pub lead_first : (k : ℕ) (shows : ℕ → Show) → FirstInRank l.steps r.steps k shows → LeadFirst l r k shows
   lead_first k shows first = record {
     cued = first.playable;
     rising = first.rising;
@@ -77,7 +76,7 @@ module _ (l r : Meaning) where
     covered = λ t. elim (first.every t) [ inl one ↦ inl (leads_back k shows t one) | inr late ↦ inr late ];
   }
 
-  pub first_in_rank : (k : ℕ) (shows : ℕ → Show) → LeadFirst l r k shows → FirstInRank l r k shows
+  pub first_in_rank : (k : ℕ) (shows : ℕ → Show) → LeadFirst l r k shows → FirstInRank l.steps r.steps k shows
   first_in_rank k shows first = record {
     playable = first.cued;
     rising = first.rising;
@@ -113,20 +112,35 @@ module _ (l r : Meaning) where
   )
 
   -- What a first difference says.
-  after_it : (s t : Show) → NoLater s t → t ≢ s → Earlier s t
-  after_it s t (inl e) other = absurd (other (sym e))
-  after_it s t (inr h) other = h
-
   pub differ_first : (v : Verdict) (s : Show) → FirstDifference l r v s → DifferFirst l r s
   differ_first v s d = record {
     cued = d.playable;
     differ = λ e. not_both s e d.divides;
-    later = λ t other apart. after_it s t (d.first t (divide t apart)) other;
+    first = λ t apart. d.first t (divide t apart);
   }
+
+  pub first_difference : (s : Show) → DifferFirst l r s → (v : Verdict) × FirstDifference l r v s
+  first_difference s d = (
+    side (divide s d.differ),
+    record {
+      named = names (divide s d.differ);
+      divides = divide s d.differ;
+      playable = d.cued;
+      first = λ t apart. d.first t (λ e. not_both t e apart);
+    },
+  )
+    where
+      side : Divides l r s → Verdict
+      side (inl d) = Left
+      side (inr d) = Right
+
+      names : (d : Divides l r s) → Names l r (side d) s
+      names (inl d) = inl (refl, d.0)
+      names (inr d) = inr (refl, d.1)
 
   pub left_first : (s : Show) → FirstDifference l r Left s → AllowsFirst l r s
   left_first s d = elim d.divides [
-    | inl (a, b) ↦ record { cued = d.playable; allows = a; bars = is_false (allowed r s) b; later = (differ_first Left s d).later }
+    | inl (a, b) ↦ record { cued = d.playable; allows = a; bars = is_false (allowed r s) b; first = (differ_first Left s d).first }
     | inr (a, b) ↦ absurd (elim d.named [ inl (e, yes') ↦ a yes' | inr (e, yes') ↦ cc e ])
   ]
 
@@ -136,7 +150,7 @@ module _ (l r : Meaning) where
       cued = rw same at d.playable;
       allows = b;
       bars = is_false (allowed l s) a;
-      later = λ t other apart. (differ_first Right s d).later t other (λ e. apart (sym e));
+      first = λ t apart. (differ_first Right s d).first t (λ e. apart (sym e));
     }
     | inl (a, b) ↦ absurd (elim d.named [ inr (e, yes') ↦ b yes' | inl (e, yes') ↦ cc e ])
   ]

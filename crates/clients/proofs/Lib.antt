@@ -5,3 +5,6 @@ pub mod Patient
 pub mod InOrder
 pub mod LowBits
 pub mod Rules
+pub mod Steady
+pub mod Again
+pub mod Differences

@@ -6,7 +6,7 @@ use Rattle.search.specs.declared.states.Verdict.{Verdict}
 use Rattle.search.specs.declared.states.Verdict.TheVariants.{Open}
 use Rattle.search.specs.Calls.{Call, Advance, Tally, AskVerdict, Answer, Worked, Told}
 use Rattle.bench.specs.declared.benches.Bench.{Bench}
-use Rattle.bench.specs.Cells.{limit}
+use Rattle.bench.specs.declared.cells.TheConstants.{LIMIT}
 use Rattle.bench.specs.Bench.{Called}
 use Rattle.clients.proofs.Handling.{Comes, goes_on}
 
@@ -34,7 +34,7 @@ module _ {L R : Type 0} (lefts : L → Meaning) (rights : R → Meaning) (b : Be
     pub grants : ℕ
     pub next : Call
     pub come : Comes lefts rights (Advance 64) by_turns b grants next here
-    pub fallen : (limit ≤ grants) ⊎ (here.state.verdict ≢ Open)
+    pub fallen : (LIMIT ≤ grants) ⊎ (here.state.verdict ≢ Open)
 
   pub ended_in_time : (k : ℕ) (here there : Bench L R) → 32 ≤ k → there ≡ here → Turned k here → Ended there
   ended_in_time k here there h e so = record { grants = 64 * k; next = Advance 64; come = subst (Comes lefts rights (Advance 64) by_turns b (64 * k) (Advance 64)) (sym e) so; fallen = inl (omega arith) }

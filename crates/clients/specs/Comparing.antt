@@ -1,6 +1,6 @@
 -- What clients of a bench say of two machines, in words of shows and of where they lead.
 -- Assumes nothing.
-use Rattle.std.specs.Prelude.{◌≡◌, ◌≢◌, ℕ, ◌<◌, ◌⊎◌, ◌↔◌, true, false, List, ◌++◌, take, drop}
+use Rattle.std.specs.Prelude.{◌≡◌, ℕ, ◌<◌, ◌⊎◌, ◌↔◌, true, false, List, ◌++◌, take, drop}
 use Rattle.machine.specs.Show.{Show, Cued, Earlier}
 use Rattle.machine.specs.Meaning.{Meaning, leads_to, allowed}
 use Rattle.search.specs.declared.states.Verdict.{Verdict}
@@ -21,7 +21,7 @@ module _ (l r : Meaning) where
 
   -- Two shows lead both machines to the same positions.
   abbrev pub LeadAlike : Show → Show → Type 0
-  LeadAlike s t = (leads_to l s ≡ leads_to l t) × (leads_to r s ≡ leads_to r t)
+  LeadAlike s t = (leads_to l.steps s ≡ leads_to l.steps t) × (leads_to r.steps s ≡ leads_to r.steps t)
 
   -- There are so many shows, no two of which lead both machines to the same positions.
   pub record ManyApart (count : ℕ) : Type 0 where
@@ -51,11 +51,15 @@ module _ (l r : Meaning) where
   pub record DifferFirst (s : Show) : Type 0 where
     pub cued : Cued l.steps.cues s
     pub differ : Agree s → ⊥
-    pub later : (t : Show) → t ≢ s → (Agree t → ⊥) → Earlier s t
+    pub first : (t : Show) → (Agree t → ⊥) → (s ≡ t) ⊎ Earlier s t
 
   -- A bench that may record 2,048 joint positions can tell the two apart or alike.
   abbrev pub BenchSuffices : Type 0
   BenchSuffices = ManyApart 2049 → ⊥
+
+  -- The show is the first of which they do not say the same, and a bench finds it.
+  abbrev pub BenchFinds : Show → Type 0
+  BenchFinds s = SameCues × BenchSuffices × DifferFirst s
 
   -- What equal, full and unlike say.
   abbrev pub EqualSays : Verdict → Type 0
@@ -72,7 +76,7 @@ pub record AllowsFirst (l r : Meaning) (s : Show) : Type 0 where
   pub cued : Cued l.steps.cues s
   pub allows : allowed l s ≡ true
   pub bars : allowed r s ≡ false
-  pub later : (t : Show) → t ≢ s → (Agree l r t → ⊥) → Earlier s t
+  pub first : (t : Show) → (Agree l r t → ⊥) → (s ≡ t) ⊎ Earlier s t
 
 -- What left and right say of the show found.
 abbrev pub SideSays : Meaning → Meaning → Verdict → Show → Type 0

@@ -2,3 +2,4 @@ pub mod Comparing
 pub mod Tables
 pub mod Watches
 pub mod Rules
+pub mod Counting

@@ -1,9 +1,10 @@
 //! Uses of a bench.
-ghost use Rattle.std.specs.Prelude.{◌≡◌, ◌≢◌, take};
+ghost use Rattle.std.specs.Prelude.{◌≡◌, ◌≢◌, ◌+◌, ◌<◌, ◌≤◌, IsTrue, IfSome, take};
 ghost use Rattle.search.specs.declared.states.Verdict.TheVariants.{Open};
-ghost use Rattle.clients.specs.Comparing.{EqualSays, FullSays, UnlikeSays, SideSays, WritesFront};
+ghost use Rattle.clients.specs.Comparing.{SameCues, EqualSays, FullSays, UnlikeSays, SideSays, WritesFront, DifferFirst, BenchFinds};
+ghost use Rattle.clients.specs.Counting.{LastOfFirst, CountedAs};
 
-use bench::{Bench, Verdict};
+use bench::{Bench, LIMIT, ShowRefusal, Verdict};
 use machine::Machine;
 
 // Room for the longest show that a bench finds.
@@ -33,4 +34,185 @@ pub fn patient<L: Machine + Drop, R: Machine + Drop>(
     let verdict = bench.verdict();
     let length = bench.show(buffer).unwrap_or(0);
     (verdict, length)
+}
+
+/// What a bench tells when it is asked for everything.
+#[derive(Drop)]
+pub struct Findings {
+    /// The verdict.
+    pub verdict: Verdict,
+    /// How many joint positions are worked, and how many recorded.
+    pub tally: (u16, u16),
+    /// How many cues the show has, or why none was written.
+    pub length: Result<usize, ShowRefusal>,
+    /// What stands in a buffer that held zeros.
+    pub show: [u8; LONGEST],
+}
+
+/// Grants all at once to two machines, and then by single units to the same two. Answers what was found at the end of each.
+pub fn either_way<L: Machine + Drop, R: Machine + Drop>(
+    left: L,
+    right: R,
+    grant: u32,
+) -> (Findings, Findings)
+    ensures { result.0 ≡ result.1 }
+{
+    let mut at_once = Bench::open(left, right);
+    at_once.advance(grant);
+    let mut show = [0; LONGEST];
+    let length = at_once.show(&mut show);
+    let found = Findings {
+        verdict: at_once.verdict(),
+        tally: at_once.tally(),
+        length,
+        show,
+    };
+    let (left, right) = at_once.release();
+    let mut singly = Bench::open(left, right);
+    for _ in 0..grant {
+        singly.advance(1);
+    }
+    let mut show = [0; LONGEST];
+    let length = singly.show(&mut show);
+    let found_again = Findings {
+        verdict: singly.verdict(),
+        tally: singly.tally(),
+        length,
+        show,
+    };
+    (found, found_again)
+}
+
+/// Decides two machines, and then the same two again, with more grants and in two parts. Answers both verdicts.
+pub fn second_opinion<L: Machine + Drop, R: Machine + Drop>(
+    left: L,
+    right: R,
+    more: u32,
+) -> (Verdict, Verdict)
+    ensures { result.0 ≡ result.1 }
+{
+    let mut first = Bench::open(left, right);
+    first.advance(LIMIT);
+    let verdict = first.verdict();
+    let (left, right) = first.release();
+    let mut second = Bench::open(left, right);
+    second.advance(more);
+    second.advance(LIMIT);
+    (verdict, second.verdict())
+}
+
+/// Whether a show is the first of which two machines do not say the same. It is found wherever a bench suffices.
+pub fn is_first_difference<L: Machine + Drop, R: Machine + Drop>(
+    left: L,
+    right: R,
+    expected: &[u8],
+) -> bool
+    ensures found { IsTrue result → DifferFirst (L.Machine.meaning left) (R.Machine.meaning right) expected.now }
+    ensures sure { BenchFinds (L.Machine.meaning left) (R.Machine.meaning right) expected.now → IsTrue result }
+{
+    let mut bench = Bench::open(left, right);
+    bench.advance(LIMIT);
+    let mut show = [0; LONGEST];
+    match bench.show(&mut show) {
+        Ok(length) => &show[..length] == expected,
+        Err(_) => false,
+    }
+}
+
+/// Finds where two machines first differ, and answers how many joint positions were met, that one the last, and the length of its
+/// first show, which then stands at the front of the buffer.
+pub fn place_of_difference<L: Machine + Drop, R: Machine + Drop>(
+    left: L,
+    right: R,
+    buffer: &mut [u8; LONGEST],
+) -> Option<(u16, usize)>
+    ensures last { IfSome result (λ found. LastOfFirst (L.Machine.meaning left) (R.Machine.meaning right) found.0 (take found.1 buffer.new)) }
+{
+    let mut bench = Bench::open(left, right);
+    bench.advance(LIMIT);
+    let (_, recorded) = bench.tally();
+    match bench.show(buffer) {
+        Ok(length) => Some((recorded, length)),
+        Err(_) => None,
+    }
+}
+
+/// Counts the joint positions of two machines after a grant.
+pub fn counted<L: Machine + Drop, R: Machine + Drop>(
+    left: L,
+    right: R,
+    grant: u32,
+) -> (Verdict, u16, u16)
+    ensures { CountedAs (L.Machine.meaning left) (R.Machine.meaning right) result.0 result.1 result.2 }
+{
+    let mut bench = Bench::open(left, right);
+    bench.advance(grant);
+    let (worked, recorded) = bench.tally();
+    (bench.verdict(), worked, recorded)
+}
+
+/// Grants so often to a bench, each time looks at its tally and asks for the show, and answers whether nothing was ever worked or recorded.
+pub fn stays_blank<L: Machine + Drop, R: Machine + Drop>(
+    left: L,
+    right: R,
+    grant: u32,
+    times: u16,
+    buffer: &mut [u8],
+) -> bool
+    ensures blank { (SameCues (L.Machine.meaning left) (R.Machine.meaning right) → ⊥) → IsTrue result }
+    ensures buffer_stays { (SameCues (L.Machine.meaning left) (R.Machine.meaning right) → ⊥) → buffer.new ≡ buffer.old }
+{
+    let mut bench = Bench::open(left, right);
+    let mut blank = true;
+    for _ in 0..times {
+        let worked = bench.advance(grant);
+        let tally = bench.tally();
+        let shown = bench.show(buffer).is_ok();
+        blank = blank && worked == 0 && tally == (0, 0) && !shown;
+    }
+    blank
+}
+
+/// What two grants came to: how many joint positions they worked, and how many of those recorded wait to be worked.
+pub fn spent<L: Machine + Drop, R: Machine + Drop>(
+    left: L,
+    right: R,
+    first: u32,
+    second: u32,
+) -> (u16, u16)
+    ensures granted { result.0 ≤ first + second }
+    ensures room { result.0 + result.1 ≤ 2048 }
+{
+    let mut bench = Bench::open(left, right);
+    let worked = bench.advance(first);
+    let worked_then = bench.advance(second);
+    let (_, recorded) = bench.tally();
+    (worked + worked_then, recorded - worked - worked_then)
+}
+
+/// What is left of any bench: how many recorded joint positions wait to be worked, and how many places are free.
+pub fn spare<L: Machine, R: Machine>(bench: &Bench<L, R>) -> (Verdict, u16, u16)
+    ensures room { result.1 + result.2 ≤ 2048 }
+    ensures open_waits { result.0 ≡ Open → 0 < result.1 }
+{
+    let (worked, recorded) = bench.tally();
+    (bench.verdict(), recorded - worked, 2048 - recorded)
+}
+
+/// Grants to a bench so often, and gives both machines back with the verdict.
+pub fn given_back<L: Machine, R: Machine>(
+    left: L,
+    right: R,
+    grant: u32,
+    times: u16,
+) -> (Verdict, L, R)
+    ensures { (result.1 ≡ left) × (result.2 ≡ right) }
+{
+    let mut bench = Bench::open(left, right);
+    for _ in 0..times {
+        bench.advance(grant);
+    }
+    let verdict = bench.verdict();
+    let (left, right) = bench.release();
+    (verdict, left, right)
 }

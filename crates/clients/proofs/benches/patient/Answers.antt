@@ -1,7 +1,7 @@
 use Rattle.std.proofs.Common.{◌≡◌, ◌≢◌, Bool, true, sym, arith, rules}
 use Rattle.search.specs.Calls.{Advance, AskVerdict}
-use Rattle.clients.proofs.Handling.{begins}
-use Rattle.clients.proofs.Told.{Concluded, concluded, not_open, equal_says, full_says, unlike_says, side_says, writes_front}
+use Rattle.clients.proofs.Handling.{replying, begins}
+use Rattle.clients.proofs.Told.{Reached, concluded, not_open, equal_says, full_says, unlike_says, side_says, writes_front}
 use Rattle.clients.proofs.Patient.{by_turns, one_turn, Ended, ended_in_time, ended_early}
 use Rattle.clients.proofs.benches.patient.Goals.{else-loop-test, then-loop-test+then-not-is_open}
 use Rattle.clients.proofs.benches.patient.Goals as goal
@@ -21,9 +21,14 @@ returns g c =
       | then-loop-test+then-not-is_open w ↦ ended_early lefts rights c.open-bench.result c.loop.counter _ _ c.loop.bench w.advance.new.self c.loop-test.bench w.bench-is
           c.loop.invariant w.advance.ensures.called w.verdict.ensures (λ e. let shut = w.if-not-is_open.true in cc (shut, w.is_open.ensures.answer.1 e))
     ] in
-    let done : Concluded (lefts c.args.left) (rights c.args.right) c.verdict-verdict.result c.show.result c.args.buffer.now c.show.new.buffer =
-    concluded lefts rights c.open-bench.result c.loop-test.bench _ ended.come.answers ended.grants ended.come.run _ _ _ _ c.verdict-verdict.ensures c.show.ensures
-    c.args.left c.args.right c.open-bench.ensures.machines c.open-bench.ensures.truth c.open-bench.ensures.unlike ended.fallen
+    let so : Reached lefts rights c.args.left c.args.right ended.grants c.loop-test.bench = record {
+      bench = c.open-bench.result;
+      opened = record { machines = c.open-bench.ensures.machines; truth = c.open-bench.ensures.truth; stays = c.open-bench.ensures.unlike };
+      pick = replying (Advance 64) by_turns;
+      answers = ended.come.answers;
+      run = ended.come.run;
+    } in
+    let done = concluded lefts rights c.args.left c.args.right ended.grants c.loop-test.bench so ended.fallen _ c.verdict-verdict.ensures _ _ _ c.show.ensures
     in
     let length = c.unwrap_or-length.ensures in
     record {
