@@ -49,7 +49,7 @@ fn wheel(states: u8, first: u8) -> Table
     Table::filled(states, 32, next, 0).unwrap()
 }
 
-// Compares a wheel of 64 states with one of 32 that turns by the other cues, and answers how many joint positions it worked.
+// Compares a wheel of 64 states with one of 32 that turns by the other cues. Answers how many joint positions were worked.
 fn compare() -> u16
     ensures { WheelsWorked result }
 {
