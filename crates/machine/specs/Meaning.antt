@@ -29,7 +29,7 @@ allowed m s = m.closes (leads_to m.steps s)
 abbrev pub Allows : Meaning → Show → Type 0
 Allows m s = IsTrue (allowed m s)
 
--- A show divides (distinguishes) two machines when exactly one of them allows it.
+-- A show divides (distinguishes) two machines when the one allows it and the other does not.
 abbrev pub Divides : Meaning → Meaning → Show → Type 0
 Divides m n s = (Allows m s × (Allows n s → ⊥)) ⊎ ((Allows m s → ⊥) × Allows n s)
 
