@@ -8,3 +8,4 @@ pub mod Rules
 pub mod Steady
 pub mod Again
 pub mod Differences
+pub mod Books

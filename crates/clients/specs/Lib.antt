@@ -3,3 +3,4 @@ pub mod Tables
 pub mod Watches
 pub mod Rules
 pub mod Counting
+pub mod Books
