@@ -1,22 +1,27 @@
 -- What clients take from the promises of drafts and books.
 -- Assumes nothing.
-use Rattle.std.proofs.Common.{◌≡◌, ◌≢◌, ℕ, zero, suc, ◌<◌, ◌↔◌, Bool, true, false, not, IsTrue, Result, OnOk, ◌^◌, ◌/◌, ◌==◌, List, [], ◌∷◌, ◌++◌, set, slice_get, Some, Ok, Err, refl, sym, subst, arith}
+use Rattle.std.proofs.Common.{◌≡◌, ◌≢◌, ℕ, zero, suc, ◌<◌, ◌↔◌, Bool, true, false, not, IsTrue, Result, OnOk, OnErr, IsErrOf, rules, ◌^◌, ◌/◌, ◌==◌, List, [], ◌∷◌, ◌++◌, set, slice_get, Some, Ok, Err, refl, sym, subst, arith, ◌≤◌, length}
 use Rattle.std.specs.Bool.{beq}
 use Rattle.std.proofs.lemmas.Bool.Decides.{Decides-eqb}
 use Rattle.std.proofs.lemmas.Option.{slice_get_within}
 use Rattle.machine.specs.Show.{Show, Cued}
 use Rattle.machine.specs.Meaning.{leads_to}
 use Rattle.machine.specs.Table.{bit}
-use Rattle.rules.specs.declared.templates.Template.TheVariants.{Response}
-use Rattle.rules.specs.Rule.{Terms, HoldsOf, retuned, letter_of, step_of}
+use Rattle.rules.specs.declared.templates.Template.{Template}
+use Rattle.rules.specs.Form.{CountRight, CuesRight}
+use Rattle.rules.specs.Naming.{template_number, arguments_of}
+use Rattle.rules.specs.declared.templates.Template.TheVariants.{Init, Response}
+use Rattle.rules.specs.Rule.{Terms, kept, HoldsOf, retuned, letter_of, step_of}
 use Rattle.book.specs.declared.values.Value.{Value}
 use Rattle.book.specs.declared.values.Value.TheVariants.{HoldsAlways, Holds, Fails, FailsAlways}
 use Rattle.book.specs.Content.{Content}
-use Rattle.book.specs.Draft.{draft_content, with_count, Counted, RetunedRule}
+use Rattle.book.specs.Draft.{draft_content, with_count, Counted, RetunedRule, CuesBelow, Added}
 use Rattle.book.specs.declared.values.ReadingRefusal.{ReadingRefusal}
 use Rattle.book.specs.declared.drafts.Draft.{Draft}
 use Rattle.book.specs.declared.drafts.DraftRefusal.{DraftRefusal}
+use Rattle.book.specs.declared.drafts.DraftRefusal.TheVariants.{NoSuchTemplate, NoSuchCue, CountOutside, SameCue, Full, NoSuchRule}
 use Rattle.book.specs.declared.books.Book.{Book}
+use Rattle.book.specs.Examples.{ExampleCasesHold}
 use Rattle.book.specs.Book.{book_content, book_meaning, part, MovesByParts}
 use Rattle.book.specs.Value.{ValueIs, Always, Reads, ReadAlike, Relevant, behind, after_show, from_state}
 use Rattle.book.specs.Reading.{Read, Weighed, ReadBehind, ReadBehindShows, WeighedBehind, WeighedBehindShows, OneReading, SecondANotRelevant}
@@ -148,3 +153,35 @@ differs relevant false e = rw e refl
 -- The highest four bits of a position of 64 are its part 15.
 pub top_bits : (p q : ℕ) → p < 2 ^ 64 → q < 2 ^ 64 → part p 15 ≡ part q 15 → IsTrue (p / 1152921504606846976 == q / 1152921504606846976)
 top_bits p q low also same = let top : p / 1152921504606846976 ≡ q / 1152921504606846976 = omega arith in (Decides-eqb _ _).1 top
+
+-- What the first example case says of the rule that it names.
+pub first_example : (r : Terms) → r ≡ kept Response 0 1 0 → ExampleCasesHold → HoldsOf r (0 ∷ 0 ∷ 1 ∷ 2 ∷ []) × (HoldsOf r (0 ∷ 1 ∷ 0 ∷ 2 ∷ []) → ⊥)
+unfolding ExampleCasesHold
+first_example r is cases = subst (λ r. HoldsOf r (0 ∷ 0 ∷ 1 ∷ 2 ∷ []) × (HoldsOf r (0 ∷ 1 ∷ 0 ∷ 2 ∷ []) → ⊥)) (sym is) cases.0
+
+-- An init of cue 0 is right for every draft, so only room can be wanting.
+init_of : (t u : Template) → template_number t ≡ template_number u → t ≡ u
+init_of = search rules
+
+cue_below : (t : Template) (count : ℕ) → template_number t ≡ 4 → 1 ≤ count → CuesBelow count t 0 0
+cue_below t count is some = rw (init_of t Init is) (omega arith, λ two. absurd (cc two))
+
+count_right : (t : Template) → template_number t ≡ 4 → CountRight (arguments_of t) 0
+count_right t is = rw (init_of t Init is) (λ counts. absurd (cc counts))
+
+cues_right : (t : Template) → template_number t ≡ 4 → CuesRight (arguments_of t) 0 0
+cues_right t is = rw (init_of t Init is) (λ two. absurd (cc two))
+
+pub only_room : (g : Result Unit DraftRefusal) (before after : Draft) → Added g 4 0 0 0 before after → OnErr g (IsErrOf g Full × (16 ≤ length (draft_content before).rules))
+only_room (Ok done) before after added = tt
+only_room (Err NoSuchTemplate) before after (none, same) = absurd (none Init refl)
+only_room (Err NoSuchCue) before after ((t, is, bad), same) = absurd (bad (cue_below t before.cues is before.some_cues))
+only_room (Err CountOutside) before after ((t, is, (below, bad)), same) = absurd (bad (count_right t is))
+only_room (Err SameCue) before after ((t, is, (below, right, bad)), same) = absurd (bad (cues_right t is))
+only_room (Err Full) before after ((t, is, (below, right, bad)), same) = (refl, omega (arith, bad))
+only_room (Err NoSuchRule) before after (never, same) = absurd never
+
+-- What is not so is denied.
+pub by_false : (told : Bool) → (IsTrue told → ⊥) → IsTrue (not told)
+by_false true bad = absurd (bad refl)
+by_false false bad = refl

@@ -1,17 +1,18 @@
 //! Uses of drafts and books.
-ghost use Rattle.std.specs.Prelude.{◌≡◌, ◌↔◌, IsTrue, IsErr, IsErrOf, OnOk, OnErr};
+ghost use Rattle.std.specs.Prelude.{◌≡◌, ◌≤◌, ◌↔◌, length, IsTrue, IsErr, IsErrOf, OnOk, OnErr};
 ghost use Rattle.machine.specs.Show.{Cued};
 ghost use Rattle.machine.specs.Meaning.{Allows};
 ghost use Rattle.book.specs.Book.{book_content, book_meaning};
 ghost use Rattle.book.specs.Draft.{draft_content};
-ghost use Rattle.book.specs.declared.drafts.DraftRefusal.TheVariants.{NoSuchTemplate, NoSuchRule};
+ghost use Rattle.book.specs.declared.drafts.DraftRefusal.TheVariants.{NoSuchTemplate, NoSuchRule, Full};
 ghost use Rattle.clients.specs.Books.{WithCount, OthersStay, NoneTellsApart, StaysKept, StaysBroken, MayComeNext, RuleHolds};
 
 use book::{
-    Book, Draft, DraftRefusal, Value, one_reading, second_a_not_relevant, whole_in_content,
+    Book, Draft, DraftRefusal, Value, example_cases, one_reading, second_a_not_relevant,
+    whole_in_content,
 };
-use machine::{Machine, leads_to};
-use rules::Template;
+use machine::{Machine, Numbered, leads_to};
+use rules::{Rule, Template};
 
 /// Strikes the rule past a draft's last. There is none, and the draft stays as it was.
 pub fn strike_past_the_last(draft: &mut Draft) -> Result<(), DraftRefusal>
@@ -43,6 +44,14 @@ pub fn add_of_no_template(draft: &mut Draft, a: u8, b: u8, n: u8) -> Result<(), 
     ensures as_it_was { draft.new ≡ draft.old }
 {
     draft.add(22, a, b, n)
+}
+
+/// Adds that a show begins with its first cue. For this rule only room can be wanting.
+pub fn add_first_cue(draft: &mut Draft) -> Result<(), DraftRefusal>
+    ensures full { OnErr result (IsErrOf result Full × (16 ≤ length (draft_content draft.old).rules)) }
+    ensures as_it_was { OnErr result (draft.new ≡ draft.old) }
+{
+    draft.add(Template::Init.number(), 0, 0, 0)
 }
 
 /// Adds a rule, and strikes it again. The draft is as it was, whether the rule was taken or not.
@@ -203,5 +212,16 @@ pub fn closes_where_its_rule_does(draft: Draft, position: u64) -> bool
         }
         Some(_) => true,
         None => book.may_close(position),
+    }
+}
+
+/// The first of the example cases, walked: two As with a B behind them keep a response, and a second A without one breaks it.
+pub fn response_is_as_in_the_example() -> bool
+    ensures { IsTrue result }
+{
+    example_cases();
+    match Rule::new(Template::Response, 0, 1, 0) {
+        Ok(rule) => rule.holds(&[0, 0, 1, 2]) && !rule.holds(&[0, 1, 0, 2]),
+        Err(_) => true,
     }
 }

@@ -119,7 +119,8 @@ pub fn is_past(rule: Rule, word: &[Letter], state: u8) -> bool
 pub fn past_the_last_is_shut(rule: Rule, state: u8, letter: Letter) -> bool
     ensures { IsTrue result }
 {
-    state < rule.states() || rule.step(state, letter) == state && !rule.closes(state)
+    let states = rule.states();
+    state < states || rule.step(state, letter) == state && !rule.closes(state)
 }
 
 /// Where a template takes no B, the letter B leads where other leads.
