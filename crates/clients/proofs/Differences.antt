@@ -7,11 +7,16 @@ use Rattle.machine.specs.Show.{Show}
 use Rattle.machine.specs.Meaning.{Meaning}
 use Rattle.search.specs.declared.states.Verdict.{Verdict}
 use Rattle.search.specs.declared.states.ShowRefusal.{ShowRefusal}
+use Rattle.search.specs.declared.states.Verdict.TheVariants.{Left, Right}
+use Rattle.search.specs.Search.{after}
+use Rattle.search.specs.Rank.{FirstInRank}
 use Rattle.search.specs.Truth.{FirstDifference}
+use Rattle.search.specs.Units.{TallyTells, LastDivides, verdict_after, recorded_after, show_after, RecordedInRank}
 use Rattle.search.specs.Runs.{OneTruth}
 use Rattle.bench.specs.declared.cells.TheConstants.{LIMIT}
 use Rattle.clients.specs.Comparing.{SameCues, DifferFirst, BenchFinds}
-use Rattle.clients.proofs.Compared.{divide, many_apart, differ_first, first_difference, in_front}
+use Rattle.clients.specs.Counting.{LastOfFirst}
+use Rattle.clients.proofs.Compared.{first_in_rank, divide, many_apart, differ_first, first_difference, in_front}
 use Rattle.clients.proofs.Told.{Concluded}
 
 module _ (l r : Meaning) (v : Verdict) (told : Result ℕ ShowRefusal) (before now' : List ℕ) (done : Concluded l r v told before now') (room : length before ≡ 2047) where
@@ -41,6 +46,28 @@ module _ (l r : Meaning) (v : Verdict) (told : Result ℕ ShowRefusal) (before n
         | inl (s', first, short, shown) ↦
             let (front, text, long) = in_front s' told before now' (omega arith) shown in
             let e : s' ≡ s = one.show v w s' s first d' in
-            (long ∙ ap (λ x. Ok (length x)) e, rw e (rw long at front))
+            (long ∙ ap (λ x. Ok (length x)) e, rw e at (front_of s' front long))
         | inr (a, b, e) ↦ absurd (elim d.named [ inl (e, x) ↦ a e | inr (e, x) ↦ b e ])
       ]
+    where
+      front_of : (s' : Show) → take (result_unwrap_or told 0) now' ≡ s' → told ≡ Ok (length s') → take (length s') now' ≡ s'
+      front_of s' front long = rw long at front
+
+last_met : (l r : Meaning) (v : Verdict) (recorded worked : ℕ) (s : Show) (here : ℕ → Show) → OneTruth l r LIMIT → FirstDifference l r v s
+    → FirstInRank l.steps r.steps recorded here → LastDivides l r LIMIT here worked recorded v → LastOfFirst l r recorded s
+last_met l r v recorded worked s here one d rank last shows first =
+    one.show v v s (here (recorded - 1)) d last.divides
+    ∙ one.rank recorded here shows rank (first_in_rank l r recorded shows first) (recorded - 1) (elim last.met [ inl (e, f) ↦ omega arith | inr (w, c, inside, e, f) ↦ omega arith ])
+
+-- The show found is the last of the first shows, however they are listed.
+pub last_of_first : (l r : Meaning) (v : Verdict) (recorded worked : ℕ) (s : Show) (here : ℕ → Show) → OneTruth l r LIMIT → FirstDifference l r v s
+    → FirstInRank l.steps r.steps recorded here → TallyTells l r LIMIT here worked recorded v → LastOfFirst l r recorded s
+last_of_first l r Left recorded worked s here one d rank tells shows first = last_met l r Left recorded worked s here one d rank tells shows first
+last_of_first l r Right recorded worked s here one d rank tells shows first = last_met l r Right recorded worked s here one d rank tells shows first
+last_of_first l r v recorded worked s here one d rank tells shows first = absurd (elim d.named [ inl (e, x) ↦ cc e | inr (e, x) ↦ cc e ])
+
+-- So a bench tells it.
+pub last_told : (l r : Meaning) (g recorded : ℕ) (v : Verdict) (s : Show) → OneTruth l r LIMIT → FirstDifference l r v s → v ≡ verdict_after l r LIMIT g
+    → recorded ≡ recorded_after l r LIMIT g → RecordedInRank l r LIMIT g → LastOfFirst l r recorded s
+last_told l r g recorded v s one d e f rank =
+    rw f (last_of_first l r (verdict_after l r LIMIT g) (recorded_after l r LIMIT g) (after l r LIMIT g).worked s (show_after l r LIMIT g) one (rw e at d) rank.first rank.tells)

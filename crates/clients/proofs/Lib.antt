@@ -9,3 +9,5 @@ pub mod Steady
 pub mod Again
 pub mod Differences
 pub mod Books
+pub mod Spent
+pub mod Blank

@@ -24,6 +24,10 @@ pub record Concluded (l r : Meaning) (v : Verdict) (told : Result ℕ ShowRefusa
   pub truly : SameCues l r → TrueVerdict l r LIMIT v × ShowTold l r LIMIT v before (Written told now')
   pub unlike : (SameCues l r → ⊥) → (v ≡ Unlike) × (told ≡ Err NoShow) × (now' ≡ before)
 
+-- The verdict can be asked for at any time.
+pub asking : {L R : Type 0} (lefts : L → Meaning) (rights : R → Meaning) (here : Bench L R) → Called lefts rights AskVerdict (Told here.state.verdict) here here
+asking lefts rights here = record { answered = refl; state = refl; left = refl; right = refl }
+
 -- A bench that was opened over the machines x and y, and handled by grants that add up to g.
 module _ {L R : Type 0} (lefts : L → Meaning) (rights : R → Meaning) (x : L) (y : R) where
   pub record Opened (b : Bench L R) : Type 0 where

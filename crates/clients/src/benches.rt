@@ -151,26 +151,26 @@ pub fn counted<L: Machine + Drop, R: Machine + Drop>(
     (bench.verdict(), worked, recorded)
 }
 
-/// Grants so often to a bench, each time looks at its tally and asks for the show, and answers whether nothing was ever worked or recorded.
-pub fn stays_blank<L: Machine + Drop, R: Machine + Drop>(
+/// Grants so often to a bench, each time looks at its tally and asks for the show, and answers the largest number that was told.
+pub fn most_told<L: Machine + Drop, R: Machine + Drop>(
     left: L,
     right: R,
     grant: u32,
     times: u16,
     buffer: &mut [u8],
-) -> bool
-    ensures blank { (SameCues (L.Machine.meaning left) (R.Machine.meaning right) → ⊥) → IsTrue result }
+) -> u16
+    ensures none { (SameCues (L.Machine.meaning left) (R.Machine.meaning right) → ⊥) → result ≡ 0 }
     ensures buffer_stays { (SameCues (L.Machine.meaning left) (R.Machine.meaning right) → ⊥) → buffer.new ≡ buffer.old }
 {
     let mut bench = Bench::open(left, right);
-    let mut blank = true;
+    let mut most = 0;
     for _ in 0..times {
         let worked = bench.advance(grant);
-        let tally = bench.tally();
-        let shown = bench.show(buffer).is_ok();
-        blank = blank && worked == 0 && tally == (0, 0) && !shown;
+        let (counted, recorded) = bench.tally();
+        most = worked.max(counted).max(recorded).max(most);
+        bench.show(buffer).ok();
     }
-    blank
+    most
 }
 
 /// What two grants came to: how many joint positions they worked, and how many of those recorded wait to be worked.
