@@ -65,8 +65,11 @@ module _ (l r : Meaning) where
   }
 
   -- The first shows of the first joint positions in rank are the first to lead where they lead.
-  leads_back : (k : ℕ) (shows : ℕ → Show) (t : Show) → LeadsToOneOf l.steps r.steps k shows t → LeadsBack l r k shows t
+  pub leads_back : (k : ℕ) (shows : ℕ → Show) (t : Show) → LeadsToOneOf l.steps r.steps k shows t → LeadsBack l r k shows t
   leads_back k shows t (i, h, e, late) = (i, h, alike t (shows i) e, late)
+
+  pub leads_to_one : (k : ℕ) (shows : ℕ → Show) (t : Show) → LeadsBack l r k shows t → LeadsToOneOf l.steps r.steps k shows t
+  leads_to_one k shows t (i, h, e, late) = (i, h, one_pair t (shows i) e, late)
 
   pub lead_first : (k : ℕ) (shows : ℕ → Show) → FirstInRank l.steps r.steps k shows → LeadFirst l r k shows
   lead_first k shows first = record {
@@ -81,7 +84,7 @@ module _ (l r : Meaning) where
     playable = first.cued;
     rising = first.rising;
     apart = λ i j h low e. first.apart i j h low (alike (shows i) (shows j) e);
-    every = λ t. elim (first.covered t) [ inl (i, h, e, late) ↦ inl (i, h, one_pair t (shows i) e, late) | inr late ↦ inr late ];
+    every = λ t. elim (first.covered t) [ inl one ↦ inl (leads_to_one k shows t one) | inr late ↦ inr late ];
   }
 
   -- What equal and full say.

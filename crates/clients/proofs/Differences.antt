@@ -57,7 +57,7 @@ last_met : (l r : Meaning) (v : Verdict) (recorded worked : ℕ) (s : Show) (her
     → FirstInRank l.steps r.steps recorded here → LastDivides l r LIMIT here worked recorded v → LastOfFirst l r recorded s
 last_met l r v recorded worked s here one d rank last shows first =
     one.show v v s (here (recorded - 1)) d last.divides
-    ∙ one.rank recorded here shows rank (first_in_rank l r recorded shows first) (recorded - 1) (elim last.met [ inl (e, f) ↦ omega arith | inr (w, c, inside, e, f) ↦ omega arith ])
+    ∙ one.rank recorded here shows rank (first_in_rank l r recorded shows first) (recorded - 1) (elim last.met [ inl (e, f) ↦ omega arith | inr m ↦ omega (arith, m.inside) ])
 
 -- The show found is the last of the first shows, however they are listed.
 pub last_of_first : (l r : Meaning) (v : Verdict) (recorded worked : ℕ) (s : Show) (here : ℕ → Show) → OneTruth l r LIMIT → FirstDifference l r v s

@@ -11,3 +11,4 @@ pub mod Differences
 pub mod Books
 pub mod Spent
 pub mod Blank
+pub mod Counted

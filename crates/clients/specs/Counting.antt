@@ -7,8 +7,8 @@ use Rattle.search.specs.declared.states.Verdict.{Verdict}
 use Rattle.search.specs.declared.states.Verdict.TheVariants.{Open, Equal, Left, Right, Full, Unlike}
 use Rattle.clients.specs.Comparing.{Agree, LeadsBack, LeadFirst, DifferFirst}
 
--- So many pairs are worked, and so many recorded.
-module _ (l r : Meaning) (worked recorded : ℕ) where
+-- After a grant so many pairs are worked, and so many recorded.
+module _ (l r : Meaning) (grant worked recorded : ℕ) where
   -- A cue behind a show that leads first leads where one of these shows leads.
   abbrev pub CueLeadsBack : (ℕ → Show) → ℕ → ℕ → Type 0
   CueLeadsBack shows i c = LeadsBack l r recorded shows (shows i ++ c ∷ [])
@@ -18,6 +18,7 @@ module _ (l r : Meaning) (worked recorded : ℕ) where
   pub record MetSoFar : Type 0 where
     pub shows : ℕ → Show
     pub first : LeadFirst l r recorded shows
+    pub each_unit : worked ≡ grant
     pub left : worked < recorded
     pub agree : (i : ℕ) → i < recorded → Agree l r (shows i)
     pub met : (i : ℕ) → 0 < i → i < recorded → (w : ℕ) × (c : ℕ) × (w < worked) × (shows i ≡ shows w ++ c ∷ [])
@@ -66,10 +67,10 @@ abbrev pub LastOfFirst : Meaning → Meaning → ℕ → Show → Type 0
 LastOfFirst l r count s = (shows : ℕ → Show) → LeadFirst l r count shows → s ≡ shows (count - 1)
 
 -- What a verdict and a tally say together.
-abbrev pub CountedAs : Meaning → Meaning → Verdict → ℕ → ℕ → Type 0
-CountedAs l r Open worked recorded = MetSoFar l r worked recorded
-CountedAs l r Equal worked recorded = AllMet l r worked recorded
-CountedAs l r Left worked recorded = LastDiffers l r worked recorded
-CountedAs l r Right worked recorded = LastDiffers l r worked recorded
-CountedAs l r Full worked recorded = NoRoomLeft l r worked recorded
-CountedAs l r Unlike worked recorded = (worked ≡ 0) × (recorded ≡ 0)
+abbrev pub CountedAs : Meaning → Meaning → ℕ → Verdict → ℕ → ℕ → Type 0
+CountedAs l r grant Open worked recorded = MetSoFar l r grant worked recorded
+CountedAs l r grant Equal worked recorded = AllMet l r grant worked recorded
+CountedAs l r grant Left worked recorded = LastDiffers l r grant worked recorded
+CountedAs l r grant Right worked recorded = LastDiffers l r grant worked recorded
+CountedAs l r grant Full worked recorded = NoRoomLeft l r grant worked recorded
+CountedAs l r grant Unlike worked recorded = (worked ≡ 0) × (recorded ≡ 0)

@@ -143,7 +143,7 @@ pub fn counted<L: Machine + Drop, R: Machine + Drop>(
     right: R,
     grant: u32,
 ) -> (Verdict, u16, u16)
-    ensures { CountedAs (L.Machine.meaning left) (R.Machine.meaning right) result.0 result.1 result.2 }
+    ensures { CountedAs (L.Machine.meaning left) (R.Machine.meaning right) grant result.0 result.1 result.2 }
 {
     let mut bench = Bench::open(left, right);
     bench.advance(grant);
