@@ -8,12 +8,9 @@ use Rattle.std.proofs.lemmas.Cmp.{ranked}
 use Rattle.machine.specs.Show.{Show, Earlier, Placed, ExactlyOne, ShowOrder}
 
 module _ (order : ShowOrder) where
-  pub one_way : (s t : Show) → Earlier s t → Earlier t s → ⊥
-  one_way s t h k = order.irreflexive s (order.transitive s t s h k)
-
   -- A show that is not earlier than a second one, which is not earlier than a third, is not earlier than the third.
-  pub not_earlier : (s r t : Show) → (Earlier s r → ⊥) → (Earlier r t → ⊥) → Earlier s t → ⊥
-  not_earlier s r t h k e = split (order.total s r)
+  pub behind_no_earlier : (s r t : Show) → (Earlier s r → ⊥) → (Earlier r t → ⊥) → Earlier s t → ⊥
+  behind_no_earlier s r t h k e = split (order.total s r)
     where
       split : ExactlyOne (Earlier s r) (s ≡ r) (Earlier r s) → ⊥
       split (inl only) = h only.0

@@ -10,8 +10,8 @@ one_less n a w some e =
     rw split (div-mul-add a w (w - 1) (omega arith))
 
 -- Of 32 bits the lowest k are left behind a shift.
-pub low_bits : (k j : ℕ) → k + j ≡ 32 → 4294967295 / 2 ^ j + 1 ≡ 2 ^ k
-low_bits k j e =
+pub low_bits_set : (k j : ℕ) → k + j ≡ 32 → 4294967295 / 2 ^ j + 1 ≡ 2 ^ k
+low_bits_set k j e =
     let whole : 2 ^ k * 2 ^ j ≡ 4294967296 = sym (pow-add 2 k j) ∙ ap (λ n. 2 ^ n) e in
     let some : 0 < 2 ^ k = pow_pos k in
     let first : suc (2 ^ k - 1) ≡ 2 ^ k = omega arith in

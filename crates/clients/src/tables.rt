@@ -1,6 +1,7 @@
 //! Uses of tables.
 ghost use Rattle.std.specs.Prelude.{◌≡◌, ◌≢◌, ◌*◌, ◌≤◌, Some, None, false, length, IfSome, IfNone};
 ghost use Rattle.std.specs.Bool.{OnTrue, OnFalse};
+ghost use Rattle.machine.specs.Table.{table_meaning, description_of};
 ghost use Rattle.clients.specs.Tables.{IsOutside, IsWithin, NamesBeyond};
 
 use examples::flight;
@@ -65,6 +66,8 @@ pub fn first_fault(states: u8, cues: u8, next: &[u8], closing: u64) -> Option<Fi
 
 /// How many next states a table has: one for each of its states and cues.
 pub fn cells(table: &Table) -> usize
+    ensures one_for_each_state_and_cue { result
+        ≡ (description_of table.now).states * (table_meaning table.now).steps.cues }
     ensures at_least_one { 1 ≤ result }
     ensures at_most_2048 { result ≤ 2048 }
 {

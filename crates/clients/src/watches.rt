@@ -1,5 +1,5 @@
 //! Uses of watches, and of what any machine says of a show.
-ghost use Rattle.std.specs.Prelude.{◌≡◌, ◌^◌, ◌+◌, [], ◌++◌, length, true};
+ghost use Rattle.std.specs.Prelude.{◌≡◌, ◌≤◌, ◌^◌, ◌+◌, [], ◌++◌, length, true};
 ghost use Rattle.machine.specs.Meaning.{allowed, leads_to};
 ghost use Rattle.machine.specs.Watch.{standing, after_cues};
 ghost use Rattle.clients.specs.Watches.{FitsAShow, AllTaken};
@@ -60,7 +60,16 @@ pub fn place_of<M: Machine + Drop>(machine: M, show: &[u8]) -> u64
 pub fn all_cues<M: Machine>(machine: &M) -> u32
     ensures { result + 1 ≡ 2 ^ (M.Machine.meaning machine.now).steps.cues }
 {
-    u32::MAX >> (32 - machine.cues())
+    low_bits(machine.cues())
+}
+
+// As many bits as this, from the lowest on.
+fn low_bits(count: u8) -> u32
+    requires some { 1 ≤ count }
+    requires few { count ≤ 32 }
+    ensures { result + 1 ≡ 2 ^ count }
+{
+    u32::MAX >> (32 - count)
 }
 
 // Calls each number, and says whether every one was taken.
