@@ -18,12 +18,13 @@ module _ (order : ShowOrder) where
       split (inr (inr only)) = k (order.transitive r s t only.2 e)
 
   -- Of one and the same show the smaller cue comes first.
-  behind_same : (s : Show) (c d : ℕ) (o : Ordering) → MatchOrdering o (c < d) (c ≡ d) (d < c) → Placed o (s ++ c ∷ []) (s ++ d ∷ [])
-  behind_same s c d Less h = order.branching s c d h
-  behind_same s c d Equal e = ap (λ x. s ++ x ∷ []) e
-  behind_same s c d Greater h = order.branching s d c h
+  one_more_on_same : (s : Show) (c d : ℕ) (o : Ordering) → MatchOrdering o (c < d) (c ≡ d) (d < c) → Placed o (s ++ c ∷ []) (s ++ d ∷ [])
+  one_more_on_same s c d Less h = order.branching s c d h
+  one_more_on_same s c d Equal e = ap (λ x. s ++ x ∷ []) e
+  one_more_on_same s c d Greater h = order.branching s d c h
 
-  pub behind : (s t : Show) (c d : ℕ) (o : Ordering) → Placed o s t → Placed (ordering_then o (nat_cmp c d)) (s ++ c ∷ []) (t ++ d ∷ [])
-  behind s t c d Less h = order.appending s t c d h
-  behind s t c d Equal e = subst (λ x. Placed (nat_cmp c d) (s ++ c ∷ []) (x ++ d ∷ [])) e (behind_same s c d _ (ranked c d _ refl))
-  behind s t c d Greater h = order.appending t s d c h
+  -- Of two shows with one more cue each.
+  pub with_one_more : (s t : Show) (c d : ℕ) (o : Ordering) → Placed o s t → Placed (ordering_then o (nat_cmp c d)) (s ++ c ∷ []) (t ++ d ∷ [])
+  with_one_more s t c d Less h = order.appending s t c d h
+  with_one_more s t c d Equal e = subst (λ x. Placed (nat_cmp c d) (s ++ c ∷ []) (x ++ d ∷ [])) e (one_more_on_same s c d _ (ranked c d _ refl))
+  with_one_more s t c d Greater h = order.appending t s d c h

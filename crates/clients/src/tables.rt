@@ -52,7 +52,8 @@ pub fn made_as_filled(
 /// The first fault of a description, if it has one: the counts come before the length, and the length before the names.
 pub fn first_fault(states: u8, cues: u8, next: &[u8], closing: u64) -> Option<FillRefusal>
     ensures states_come_first { IsOutside states 64 → result ≡ Some FillRefusal.StateCount }
-    ensures then_cues { IsWithin states 64 → IsOutside cues 32 → result ≡ Some FillRefusal.CueCount }
+    ensures then_cues { IsWithin states 64 → IsOutside cues 32 →
+        result ≡ Some FillRefusal.CueCount }
     ensures then_the_length { IsWithin states 64 → IsWithin cues 32 →
         length next.now ≢ states * cues → result ≡ Some FillRefusal.Length }
     ensures then_the_names { IsWithin states 64 → IsWithin cues 32 →
