@@ -1,8 +1,9 @@
 //! Uses of watches, and of what any machine says of a show.
-ghost use Rattle.std.specs.Prelude.{◌≡◌, ◌≤◌, ◌^◌, ◌+◌, [], ◌++◌, length, true};
+ghost use Rattle.std.specs.Prelude.{◌≡◌, ◌↔◌, ◌≤◌, ◌^◌, ◌+◌, [], ◌++◌, IsTrue, length, true};
+ghost use Rattle.std.specs.Bool.{OnTrue, OnFalse};
 ghost use Rattle.machine.specs.Meaning.{allowed, leads_to};
 ghost use Rattle.machine.specs.Watch.{standing, after_cues};
-ghost use Rattle.clients.specs.Watches.{FitsAShow, AllTaken};
+ghost use Rattle.clients.specs.Watches.{FitsAShow, IsDue, AllTaken};
 
 use machine::{Closed, Machine, Watch, allows};
 
@@ -14,6 +15,18 @@ pub fn closed_at_once<M: Machine>(machine: M) -> Closed<M>
 {
     let (watch, slip) = Watch::begin(machine);
     watch.close(slip)
+}
+
+/// Calls a cue, and says whether it was taken: if it is one of the machine's, and the show has fewer than 10,000. Otherwise the
+/// show is as it was.
+pub fn takes_cue<M: Machine>(watch: &mut Watch<M>, cue: u8) -> bool
+    ensures taken_if_cue_and_room { IsTrue result
+        ↔ IsDue M.Machine.meaning (standing watch.old) cue }
+    ensures one_more_if_taken { OnTrue result
+        ((standing watch.new).taken ≡ (standing watch.old).taken + 1) }
+    ensures as_it_was_if_refused { OnFalse result (standing watch.new ≡ standing watch.old) }
+{
+    watch.cue(cue).is_ok()
 }
 
 /// Plays a show over a machine, cue by cue, and closes it. Beside what is closed stands whether every cue was taken.
