@@ -1,6 +1,6 @@
 -- What clients take from the promises of drafts and books.
 -- Assumes nothing.
-use Rattle.std.proofs.Common.{◌≡◌, ◌≢◌, ℕ, zero, suc, ◌<◌, ◌↔◌, Bool, true, false, not, IsTrue, Result, OnOk, OnErr, IsErrOf, rules, ◌^◌, ◌/◌, ◌==◌, List, [], ◌∷◌, ◌++◌, set, slice_get, Some, Ok, Err, refl, sym, subst, arith, ◌≤◌, length}
+use Rattle.std.proofs.Common.{◌≡◌, ◌≢◌, ℕ, zero, suc, ◌<◌, ◌↔◌, Bool, true, false, not, IsTrue, Result, OnOk, OnErr, IsErrOf, rules, ◌^◌, ◌/◌, ◌==◌, List, [], ◌∷◌, ◌++◌, set, slice_get, Some, Ok, Err, refl, sym, subst, arith, ◌≤◌, ap, ◌∙◌}
 use Rattle.std.specs.Bool.{beq}
 use Rattle.std.proofs.lemmas.Bool.Decides.{Decides-eqb}
 use Rattle.std.proofs.lemmas.Option.{slice_get_within}
@@ -15,7 +15,7 @@ use Rattle.rules.specs.Rule.{Terms, kept, HoldsOf, retuned, letter_of, step_of}
 use Rattle.book.specs.declared.values.Value.{Value}
 use Rattle.book.specs.declared.values.Value.TheVariants.{HoldsAlways, Holds, Fails, FailsAlways}
 use Rattle.book.specs.Content.{Content}
-use Rattle.book.specs.Draft.{draft_content, with_count, Counted, RetunedRule, CuesBelow, Added}
+use Rattle.book.specs.Draft.{draft_content, RetunedRule, CuesBelow, Added}
 use Rattle.book.specs.declared.values.ReadingRefusal.{ReadingRefusal}
 use Rattle.book.specs.declared.drafts.Draft.{Draft}
 use Rattle.book.specs.declared.drafts.DraftRefusal.{DraftRefusal}
@@ -25,7 +25,7 @@ use Rattle.book.specs.Examples.{ExampleCasesHold}
 use Rattle.book.specs.Book.{book_content, book_meaning, part, MovesByParts}
 use Rattle.book.specs.Value.{ValueIs, Always, Reads, ReadAlike, Relevant, behind, after_show, from_state}
 use Rattle.book.specs.Reading.{Read, Weighed, ReadBehind, ReadBehindShows, WeighedBehind, WeighedBehindShows, OneReading, SecondANotRelevant}
-use Rattle.clients.specs.Books.{RuleIs, WithCount, OthersStay, StaysKept, StaysBroken, MayComeNext}
+use Rattle.clients.specs.Books.{IsFull, RuleIs, WithCount, OthersStay, StaysKept, StaysBroken, MayComeNext}
 
 -- A rule put in a place stands there, and elsewhere stands what stood there.
 set_here : (rs : List Terms) (i : ℕ) (r x : Terms) → slice_get rs i ≡ Some r → slice_get (set rs i x) i ≡ Some x
@@ -40,11 +40,13 @@ set_elsewhere (y ∷ rs) zero (suc k) x other = refl
 set_elsewhere (y ∷ rs) (suc i) zero x other = refl
 set_elsewhere (y ∷ rs) (suc i) (suc k) x other = set_elsewhere rs i k x (λ e. other (omega (arith, e)))
 
-pub with_its_count : (c : Content) (i n : ℕ) (r : Terms) → Counted c i r → WithCount c (with_count c i r n) i n
-with_its_count c i n r (there, takes) = (r, retuned r n, there, set_here c.rules i r (retuned r n) there, refl, refl, rw takes refl)
-
-pub others_stay : (c : Content) (i n : ℕ) (r : Terms) → OthersStay c (with_count c i r n) i
-others_stay c i n r = record { cues = refl; rules = λ k other. set_elsewhere c.rules i k (retuned r n) other }
+-- A retuned rule has its count, and the others stay.
+pub retuned_so : (g : Result Unit DraftRefusal) (i n : ℕ) (before after : Draft) → RetunedRule g i n before after → OnOk g (WithCount before after i n) × OnOk g (OthersStay before after i)
+retuned_so (Ok done) i n before after (r, (there, takes), right, is) = (
+  (r, retuned r n, there, ap (λ c. slice_get c.rules i) is ∙ set_here (draft_content before).rules i r (retuned r n) there, refl, refl, rw takes refl),
+  record { cues = ap (λ c. c.cues) is; rules = λ k other. ap (λ c. slice_get c.rules k) is ∙ set_elsewhere (draft_content before).rules i k (retuned r n) other },
+)
+retuned_so (Err e) i n before after refused = (tt, tt)
 
 -- By the value a rule holds whatever follows, or fails whatever follows.
 pub always_if : (w : Value) (count : ℕ) (H : Show → Type 0) → ValueIs w count H → (w ≡ HoldsAlways) ↔ Always count H
@@ -63,26 +65,26 @@ never_if FailsAlways count H (not, never) = (λ e. never, λ h. refl)
 one_rule : (c : Content) (i : ℕ) (r x : Terms) → RuleIs c i r → RuleIs c i x → x ≡ r
 one_rule c i r x there here = cc
 
-module _ (c : Content) (s : Show) (i : ℕ) where
-  pub kept_if_told : (w : Value) (m : ℕ) (told : Bool) → ReadBehind (Ok (w, m)) c s i → IsTrue told ↔ (w ≡ HoldsAlways) → IsTrue told ↔ StaysKept c s i
+module _ (b : Book) (s : Show) (i : ℕ) where
+  pub kept_if_told : (w : Value) (m : ℕ) (told : Bool) → ReadBehind (Ok (w, m)) (book_content b) s i → IsTrue told ↔ (w ≡ HoldsAlways) → IsTrue told ↔ StaysKept b s i
   kept_if_told w m told (r, there, reads) is =
-      let always = always_if w c.cues (after_show r s) reads.value in
-      (λ h. (r, there, always.0 (is.0 h)), λ (x, here, all). is.1 (always.1 (subst (λ y. Always c.cues (after_show y s)) (one_rule c i r x there here) all)))
+      let always = always_if w b.cues (after_show r s) reads.value in
+      (λ h. (r, there, always.0 (is.0 h)), λ (x, here, all). is.1 (always.1 (subst (λ y. Always b.cues (after_show y s)) (one_rule (book_content b) i r x there here) all)))
 
-  pub broken_if_told : (w : Value) (m : ℕ) (told : Bool) → ReadBehind (Ok (w, m)) c s i → IsTrue told ↔ (w ≡ FailsAlways) → IsTrue told ↔ StaysBroken c s i
+  pub broken_if_told : (w : Value) (m : ℕ) (told : Bool) → ReadBehind (Ok (w, m)) (book_content b) s i → IsTrue told ↔ (w ≡ FailsAlways) → IsTrue told ↔ StaysBroken b s i
   broken_if_told w m told (r, there, reads) is =
-      let never = never_if w c.cues (after_show r s) reads.value in
-      (λ h. (r, there, never.0 (is.0 h)), λ (x, here, all). is.1 (never.1 (subst (λ y. Always c.cues (λ v. after_show y s v → ⊥)) (one_rule c i r x there here) all)))
+      let never = never_if w b.cues (after_show r s) reads.value in
+      (λ h. (r, there, never.0 (is.0 h)), λ (x, here, all). is.1 (never.1 (subst (λ y. Always b.cues (λ v. after_show y s v → ⊥)) (one_rule (book_content b) i r x there here) all)))
 
-  pub next_if_told : (w : Value) (m q : ℕ) (told : Bool) → ReadBehind (Ok (w, m)) c s i → IsTrue told ↔ IsTrue (bit m q) → IsTrue told ↔ MayComeNext c s i q
+  pub next_if_told : (w : Value) (m q : ℕ) (told : Bool) → ReadBehind (Ok (w, m)) (book_content b) s i → IsTrue told ↔ IsTrue (bit m q) → IsTrue told ↔ MayComeNext b s i q
   next_if_told w m q told (r, there, reads) is = (
     λ h. let permitted = (reads.permitted q).0 (is.0 h) in (r, there, (permitted.0, λ never. permitted.1 (never [] tt, never))),
-    λ (x, here, (low, some)). is.1 ((reads.permitted q).1 (low, λ fails. subst (λ y. (((v : Show) → Cued c.cues v → HoldsOf y (s ++ q ∷ v) → ⊥) → ⊥)) (one_rule c i r x there here) some fails.1)),
+    λ (x, here, (low, some)). is.1 ((reads.permitted q).1 (low, λ fails. subst (λ y. (((v : Show) → Cued b.cues v → HoldsOf y (s ++ q ∷ v) → ⊥) → ⊥)) (one_rule (book_content b) i r x there here) some fails.1)),
   )
 
   -- Where no rule is read there is none.
-  pub none_if_missing : (e : ReadingRefusal) (P : Terms → Type 0) → ReadBehind (Err e) c s i → IsTrue false ↔ ((r : Terms) × RuleIs c i r × P r)
-  none_if_missing e P (is, past) = (λ h. absurd (cc h), λ (r, there, so). absurd (let low = slice_get_within c.rules i r there in omega (arith, past, low)))
+  pub none_if_missing : (e : ReadingRefusal) (P : Terms → Type 0) → ReadBehind (Err e) (book_content b) s i → IsTrue false ↔ ((r : Terms) × RuleIs (book_content b) i r × P r)
+  none_if_missing e P (is, past) = (λ h. absurd (cc h), λ (r, there, so). absurd (let low = slice_get_within (book_content b).rules i r there in omega (arith, past, low)))
 
 -- The promise of a reading at the position to which a show leads.
 pub read_here : (answer : Result (Value × ℕ) ReadingRefusal) (b : Book) (s : Show) (i p : ℕ) → ReadBehindShows answer b p i → Cued b.cues s → p ≡ leads_to (book_meaning b).steps s → ReadBehind answer (book_content b) s i
@@ -100,15 +102,6 @@ idle c s i q r false second there is waits is_a weighed = refl
 idle c s i q r true second there is waits is_a (x, here, low, told) =
     let relevant : Relevant c.cues (after_show r s) q = subst (λ y. Relevant c.cues (after_show y s) q) (one_rule c i r x there here) (told.0 refl) in
     absurd (second c.cues r s is waits (rw is_a at relevant))
-
--- A retuned rule has its count, and the others stay.
-pub retuned_so : (g : Result Unit DraftRefusal) (i n : ℕ) (before after : Draft) → RetunedRule g i n before after
-    → OnOk g (WithCount (draft_content before) (draft_content after) i n) × OnOk g (OthersStay (draft_content before) (draft_content after) i)
-retuned_so (Ok done) i n before after (r, counted, right, is) = (
-  subst (λ c. WithCount (draft_content before) c i n) (sym is) (with_its_count (draft_content before) i n r counted),
-  subst (λ c. OthersStay (draft_content before) c i) (sym is) (others_stay (draft_content before) i n r),
-)
-retuned_so (Err e) i n before after refused = (tt, tt)
 
 -- A cue is relevant exactly when two right readings, before it and after, differ.
 module _ (count s q : ℕ) (r : Terms) (w x : Value) (m n : ℕ) (once : OneReading)
@@ -172,7 +165,7 @@ count_right t is = rw (init_of t Init is) (λ counts. absurd (cc counts))
 cues_right : (t : Template) → template_number t ≡ 4 → CuesRight (arguments_of t) 0 0
 cues_right t is = rw (init_of t Init is) (λ two. absurd (cc two))
 
-pub only_room : (g : Result Unit DraftRefusal) (before after : Draft) → Added g 4 0 0 0 before after → OnErr g (IsErrOf g Full × (16 ≤ length (draft_content before).rules))
+pub only_room : (g : Result Unit DraftRefusal) (before after : Draft) → Added g 4 0 0 0 before after → OnErr g (IsErrOf g Full × IsFull before)
 only_room (Ok done) before after added = tt
 only_room (Err NoSuchTemplate) before after (none, same) = absurd (none Init refl)
 only_room (Err NoSuchCue) before after ((t, is, bad), same) = absurd (bad (cue_below t before.cues is before.some_cues))

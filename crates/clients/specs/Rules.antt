@@ -1,6 +1,6 @@
 -- What clients say of rules, over shows and words.
 -- Assumes nothing.
-use Rattle.std.specs.Prelude.{◌≡◌, ℕ, suc, ◌<◌, ◌≤◌, ◌==◌, ◌↔◌, ◌⊎◌, [], ◌++◌, length, count_by, Some, slice_get}
+use Rattle.std.specs.Prelude.{◌≡◌, ℕ, Bool, IsTrue, suc, ◌<◌, ◌≤◌, ◌==◌, ◌↔◌, ◌⊎◌, [], ◌++◌, length, count_by, Some, slice_get}
 use Rattle.machine.specs.Show.{Show}
 use Rattle.rules.specs.declared.templates.Template.{Template}
 use Rattle.rules.specs.Template.{Holds, without_b}
@@ -40,3 +40,7 @@ Reached r s = (v : Word) × OverItsLetters r.template v × (word_state r v ≡ s
 -- A word over the rule's letters that is no longer than w leads to this state.
 abbrev pub ReachedNoLater : Terms → Word → ℕ → Type 0
 ReachedNoLater r w s = (v : Word) × OverItsLetters r.template v × (word_state r v ≡ s) × (length v ≤ length w)
+
+-- If a word over the rule's letters leads past a state, as is told, a word that is no longer leads to the state.
+abbrev pub IfPast : Terms → Word → ℕ → Bool → Type 0
+IfPast r w s told = OverItsLetters r.template w → IsTrue told → ReachedNoLater r w s

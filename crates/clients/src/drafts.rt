@@ -1,11 +1,9 @@
 //! Uses of drafts and books.
-ghost use Rattle.std.specs.Prelude.{◌≡◌, ◌≤◌, ◌↔◌, length, IsTrue, IsErr, IsErrOf, OnOk, OnErr};
-ghost use Rattle.machine.specs.Show.{Cued};
+ghost use Rattle.std.specs.Prelude.{◌≡◌, ◌↔◌, IsTrue, IsErr, IsErrOf, OnOk, OnErr};
 ghost use Rattle.machine.specs.Meaning.{Allows};
-ghost use Rattle.book.specs.Book.{book_content, book_meaning};
-ghost use Rattle.book.specs.Draft.{draft_content};
+ghost use Rattle.book.specs.Book.{book_meaning};
 ghost use Rattle.book.specs.declared.drafts.DraftRefusal.TheVariants.{NoSuchTemplate, NoSuchRule, Full};
-ghost use Rattle.clients.specs.Books.{WithCount, OthersStay, NoneTellsApart, StaysKept, StaysBroken, MayComeNext, RuleHolds};
+ghost use Rattle.clients.specs.Books.{IsFull, WithCount, OthersStay, OfItsCues, NoneTellsApart, StaysKept, StaysBroken, MayComeNext, RuleHolds};
 
 use book::{
     Book, Draft, DraftRefusal, Value, example_cases, one_reading, second_a_not_relevant,
@@ -48,7 +46,7 @@ pub fn add_of_no_template(draft: &mut Draft, a: u8, b: u8, n: u8) -> Result<(), 
 
 /// Adds that a show begins with its first cue. For this rule only room can be wanting.
 pub fn add_first_cue(draft: &mut Draft) -> Result<(), DraftRefusal>
-    ensures full { OnErr result (IsErrOf result Full × (16 ≤ length (draft_content draft.old).rules)) }
+    ensures full { OnErr result (IsErrOf result Full × IsFull draft.old) }
     ensures as_it_was { OnErr result (draft.new ≡ draft.old) }
 {
     draft.add(Template::Init.number(), 0, 0, 0)
@@ -71,8 +69,8 @@ pub fn add_and_strike(
 
 /// Gives one rule another count. Its template and its cue stay, and so do all other rules; a refusal leaves the draft as it was.
 pub fn retune_one(draft: &mut Draft, i: u8, n: u8) -> Result<(), DraftRefusal>
-    ensures this { OnOk result (WithCount (draft_content draft.old) (draft_content draft.new) i n) }
-    ensures others { OnOk result (OthersStay (draft_content draft.old) (draft_content draft.new) i) }
+    ensures this { OnOk result (WithCount draft.old draft.new i n) }
+    ensures others { OnOk result (OthersStay draft.old draft.new i) }
     ensures as_it_was { OnErr result (draft.new ≡ draft.old) }
 {
     draft.retune(i, n)
@@ -96,7 +94,7 @@ pub fn reopened_and_sealed(book: Book) -> Book
 
 /// Whether a book allows a show, by asking its rules one by one and not by its positions.
 pub fn all_rules_hold(book: &Book, show: &[u8]) -> bool
-    ensures { Cued (book_content book.now).cues show.now → IsTrue result ↔ Allows (book_meaning book.now) show.now }
+    ensures { OfItsCues book.now show.now → IsTrue result ↔ Allows (book_meaning book.now) show.now }
 {
     for i in 0..book.rules() {
         if !rule_holds(book, i, show) {
@@ -108,7 +106,7 @@ pub fn all_rules_hold(book: &Book, show: &[u8]) -> bool
 
 // Whether the rule of a number, if there is one, holds of a show.
 fn rule_holds(book: &Book, i: u8, show: &[u8]) -> bool
-    ensures { IsTrue result ↔ RuleHolds (book_content book.now) i show.now }
+    ensures { IsTrue result ↔ RuleHolds book.now i show.now }
 {
     match book.rule(i) {
         Some(rule) => rule.holds(show),
@@ -118,8 +116,8 @@ fn rule_holds(book: &Book, i: u8, show: &[u8]) -> bool
 
 /// Whether two shows lead a book to one position: just then nothing behind both makes one of its rules tell them apart.
 pub fn lead_to_one_position(book: &Book, s: &[u8], t: &[u8]) -> bool
-    ensures { Cued (book_content book.now).cues s.now → Cued (book_content book.now).cues t.now
-        → IsTrue result ↔ NoneTellsApart (book_content book.now) s.now t.now }
+    ensures { OfItsCues book.now s.now → OfItsCues book.now t.now
+        → IsTrue result ↔ NoneTellsApart book.now s.now t.now }
 {
     let _rules = book.rules();
     leads_to(book, s) == leads_to(book, t)
@@ -127,7 +125,7 @@ pub fn lead_to_one_position(book: &Book, s: &[u8], t: &[u8]) -> bool
 
 /// Whether a rule holds of a show and of every show that begins with it.
 pub fn stays_kept(book: &Book, show: &[u8], i: u8) -> bool
-    ensures { Cued (book_content book.now).cues show.now → IsTrue result ↔ StaysKept (book_content book.now) show.now i }
+    ensures { OfItsCues book.now show.now → IsTrue result ↔ StaysKept book.now show.now i }
 {
     match book.reading(leads_to(book, show), i) {
         Ok((value, _)) => value == Value::HoldsAlways,
@@ -137,7 +135,7 @@ pub fn stays_kept(book: &Book, show: &[u8], i: u8) -> bool
 
 /// Whether a rule fails of a show and of every show that begins with it.
 pub fn stays_broken(book: &Book, show: &[u8], i: u8) -> bool
-    ensures { Cued (book_content book.now).cues show.now → IsTrue result ↔ StaysBroken (book_content book.now) show.now i }
+    ensures { OfItsCues book.now show.now → IsTrue result ↔ StaysBroken book.now show.now i }
 {
     match book.reading(leads_to(book, show), i) {
         Ok((value, _)) => value == Value::FailsAlways,
@@ -147,7 +145,7 @@ pub fn stays_broken(book: &Book, show: &[u8], i: u8) -> bool
 
 /// Whether a rule lets a cue come next: whether it is not broken for good by it.
 pub fn may_come_next(book: &Book, show: &[u8], i: u8, cue: u8) -> bool
-    ensures { Cued (book_content book.now).cues show.now → IsTrue result ↔ MayComeNext (book_content book.now) show.now i cue }
+    ensures { OfItsCues book.now show.now → IsTrue result ↔ MayComeNext book.now show.now i cue }
 {
     match book.reading(leads_to(book, show), i) {
         Ok((_, permitted)) => cue < 32 && (permitted >> cue) % 2 == 1,
@@ -157,7 +155,7 @@ pub fn may_come_next(book: &Book, show: &[u8], i: u8, cue: u8) -> bool
 
 /// One more A while a response waits for its B changes nothing that is read of it.
 pub fn another_a_is_idle(book: &Book, show: &[u8], i: u8) -> bool
-    ensures { Cued (book_content book.now).cues show.now → IsTrue result }
+    ensures { OfItsCues book.now show.now → IsTrue result }
 {
     second_a_not_relevant();
     let Some(rule) = book.rule(i) else {

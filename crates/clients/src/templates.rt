@@ -4,7 +4,7 @@ ghost use Rattle.rules.specs.Rule.{terms};
 ghost use Rattle.rules.specs.Rule.{Terms};
 ghost use Rattle.rules.specs.States.{OverItsLetters, Numbers};
 ghost use Rattle.rules.specs.Word.{Word};
-ghost use Rattle.clients.specs.Rules.{HangsOnCount, HangsOnB, CalledAtLeast, EndsWith, EachAnswered, word_state, Inseparable, Reached, ReachedNoLater};
+ghost use Rattle.clients.specs.Rules.{HangsOnCount, HangsOnB, CalledAtLeast, EndsWith, EachAnswered, word_state, Inseparable, Reached, IfPast};
 
 use machine::Numbered;
 use rules::{Arguments, Letter, Rule, Template, words_told_apart};
@@ -109,7 +109,7 @@ pub fn is_reached(rule: Rule, state: u8) -> bool
 
 /// Whether a word leads to a later state than a given one: then a word that is no longer leads to that.
 pub fn is_past(rule: Rule, word: &[Letter], state: u8) -> bool
-    ensures { OverItsLetters (terms rule).template word.now → IsTrue result → ReachedNoLater (terms rule) word.now state }
+    ensures { IfPast (terms rule) word.now state result }
 {
     let _states = rule.states();
     state < state_after(rule, word)

@@ -17,8 +17,8 @@ impl Draft {
     pub fn seal(self) -> Book
         ensures same_content { book_content result ≡ draft_content self }
         ensures moves_part_by_part { MovesByParts (book_meaning result) (book_content result) }
-        ensures allows_what_holds { AllowsWhatHolds (book_meaning result) (book_content result) }
-        ensures one_position_unless_told_apart { OnePosition (book_meaning result) (book_content result) }
+        ensures allowed_if_held { AllowsWhatHolds (book_meaning result) (book_content result) }
+        ensures apart_only_by_rules { OnePosition (book_meaning result) (book_content result) }
     {
         let Draft { cues, held, .. } = self;
         Book { cues, held }
@@ -37,8 +37,8 @@ impl Book {
     /// How many rules the book holds. The book's whole promise stands here again, for whoever has not seen it sealed.
     pub fn rules(&self) -> u8
         ensures counts_the_rules { result ≡ length (book_content self.now).rules }
-        ensures allows_what_holds { AllowsWhatHolds (book_meaning self.now) (book_content self.now) }
-        ensures one_position_unless_told_apart { OnePosition (book_meaning self.now) (book_content self.now) }
+        ensures allowed_if_held { AllowsWhatHolds (book_meaning self.now) (book_content self.now) }
+        ensures apart_only_by_rules { OnePosition (book_meaning self.now) (book_content self.now) }
     {
         self.held.count
     }

@@ -2,8 +2,8 @@ use Rattle.book.proofs.Parts.{allows_what_holds}
 use Rattle.book.proofs.Positions.{one_position}
 use Rattle.book.proofs.books.Book.rules.Goals as goal
 
-pub returns-clause-allows_what_holds : goal.returns-clause-allows_what_holds
-returns-clause-allows_what_holds c = allows_what_holds _ _
+pub returns-clause-allowed_if_held : goal.returns-clause-allowed_if_held
+returns-clause-allowed_if_held c = allows_what_holds _ _
 
-pub returns-clause-one_position_unless_told_apart : goal.returns-clause-one_position_unless_told_apart
-returns-clause-one_position_unless_told_apart c = one_position _ _
+pub returns-clause-apart_only_by_rules : goal.returns-clause-apart_only_by_rules
+returns-clause-apart_only_by_rules c = one_position _ _
