@@ -2,11 +2,12 @@
 -- Assumes nothing.
 use Rattle.std.specs.Prelude.{◌≡◌, ◌≢◌, ℕ, ◌<◌, ◌≤◌, ◌++◌, ◌∷◌, length, Some, slice_get}
 use Rattle.machine.specs.Show.{Show, Cued}
+use Rattle.machine.specs.Meaning.{Allows}
 use Rattle.rules.specs.Rule.{Terms, HoldsOf, word_of}
 use Rattle.book.specs.declared.books.Book.{Book}
 use Rattle.book.specs.declared.drafts.Draft.{Draft}
 use Rattle.book.specs.Content.{Content}
-use Rattle.book.specs.Book.{book_content}
+use Rattle.book.specs.Book.{book_content, book_meaning}
 use Rattle.book.specs.Draft.{draft_content}
 use Rattle.clients.specs.Rules.{Inseparable}
 
@@ -30,6 +31,10 @@ pub record OthersStay (before after : Draft) (i : ℕ) : Type 0 where
 -- A show of the book's cues.
 abbrev pub OfItsCues : Book → Show → Type 0
 OfItsCues b s = Cued (book_content b).cues s
+
+-- The book allows the show.
+abbrev pub IsAllowed : Book → Show → Type 0
+IsAllowed b s = Allows (book_meaning b) s
 
 -- Nothing behind two shows makes a rule tell them apart.
 abbrev pub NoneTellsApart : Book → Show → Show → Type 0

@@ -1,9 +1,7 @@
 //! Uses of drafts and books.
 ghost use Rattle.std.specs.Prelude.{◌≡◌, ◌↔◌, IsTrue, IsErr, IsErrOf, OnOk, OnErr};
-ghost use Rattle.machine.specs.Meaning.{Allows};
-ghost use Rattle.book.specs.Book.{book_meaning};
 ghost use Rattle.book.specs.declared.drafts.DraftRefusal.TheVariants.{NoSuchTemplate, NoSuchRule, Full};
-ghost use Rattle.clients.specs.Books.{IsFull, WithCount, OthersStay, OfItsCues, NoneTellsApart, StaysKept, StaysBroken, MayComeNext, RuleHolds};
+ghost use Rattle.clients.specs.Books.{IsFull, WithCount, OthersStay, OfItsCues, IsAllowed, NoneTellsApart, StaysKept, StaysBroken, MayComeNext, RuleHolds};
 
 use book::{
     Book, Draft, DraftRefusal, Value, example_cases, one_reading, second_a_not_relevant,
@@ -94,7 +92,7 @@ pub fn reopened_and_sealed(book: Book) -> Book
 
 /// Whether a book allows a show, by asking its rules one by one and not by its positions.
 pub fn all_rules_hold(book: &Book, show: &[u8]) -> bool
-    ensures { OfItsCues book.now show.now → IsTrue result ↔ Allows (book_meaning book.now) show.now }
+    ensures { OfItsCues book.now show.now → IsTrue result ↔ IsAllowed book.now show.now }
 {
     for i in 0..book.rules() {
         if !rule_holds(book, i, show) {
