@@ -12,3 +12,5 @@ pub mod Books
 pub mod Spent
 pub mod Blank
 pub mod Counted
+pub mod SheetLemmas
+pub mod ComparisonLemmas

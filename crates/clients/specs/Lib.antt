@@ -4,3 +4,5 @@ pub mod Watches
 pub mod Rules
 pub mod Counting
 pub mod Books
+pub mod Sheets
+pub mod Comparisons

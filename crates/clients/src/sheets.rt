@@ -1,1 +1,79 @@
 //! Uses of sheets.
+ghost use Rattle.std.specs.Prelude.{◌≡◌, ◌+◌, ◌<◌, ◌⊎◌, ◌↔◌, length, IsTrue, IsOk, IfOk, IfSome, Some};
+ghost use Rattle.sheet.specs.Names.{field_at, field_line, field_text};
+ghost use Rattle.sheet.specs.Text.{NameForm};
+ghost use Rattle.clients.specs.Sheets.{IsOneCue, StandsAt, one_cue_text};
+
+use machine::Numbered;
+use sheet::{Fault, Field, ReaderRefusal, Refusal, Sheet, none_is_longer, only_two_of_a_draft};
+use std::alloc::{AllocError, Global};
+
+/// Lays out a sheet of one cue and of two books without rules, and reads it back: it is a sheet where the name is in form.
+pub fn one_cue_is_read(alloc: Global, name: &str) -> Result<bool, AllocError>
+    ensures { NameForm name.now → IfOk result IsTrue }
+{
+    let text = format!(in alloc; "cues 1\n{name}\nleft 0\nright 0\n")?;
+    Ok(Sheet::read(text.as_bytes()).is_ok())
+}
+
+/// Reads a sheet. Where it is laid out as that of one cue, it is just that.
+pub fn read_back(sheet: &[u8]) -> Result<Sheet<'_>, Fault>
+    ensures accepted { (x : _) → NameForm x → sheet.now ≡ one_cue_text x → IsOk result }
+    ensures as_laid_out { (x : _) → NameForm x → sheet.now ≡ one_cue_text x → IfOk result (IsOneCue x) }
+{
+    Sheet::read(sheet)
+}
+
+/// Whether a sheet that is accepted fits a page of 2,329 bytes. It always does.
+pub fn fits_a_page(sheet: &[u8]) -> bool
+    ensures { IsTrue result }
+{
+    none_is_longer();
+    match Sheet::read(sheet) {
+        Ok(_) => sheet.len() <= 2329,
+        Err(_) => true,
+    }
+}
+
+/// The field in which the name of a cue stands, in its line and at its byte.
+pub fn name_field(sheet: &[u8], cue: u8) -> Option<Field<'_>>
+    ensures stands_in_its_line { IfSome result (λ f. field_line f ≡ cue + 2) }
+    ensures stands_at_its_byte { IfSome result (λ f. StandsAt sheet.now (field_at f) (field_text f)) }
+{
+    match Sheet::read(sheet) {
+        Ok(sheet) => sheet.names.field(cue),
+        Err(_) => None,
+    }
+}
+
+/// Whether a sheet is told to be too long.
+pub fn is_told_too_long(sheet: &[u8]) -> bool
+    ensures { IsTrue result ↔ (16384 < length sheet.now) }
+{
+    match Sheet::read(sheet) {
+        Err(fault) => fault.refusal == Refusal::Reader(ReaderRefusal::TooLong),
+        Ok(_) => false,
+    }
+}
+
+/// The number and the line of the fault of a sheet without bytes.
+pub fn fault_of_nothing() -> Option<(u8, u32)>
+    ensures { result ≡ Some (2, 1) }
+{
+    let fault = Sheet::read(&[]).err()?;
+    Some((fault.refusal.number(), fault.line))
+}
+
+/// The number of the fault, where a draft turns a sheet down.
+pub fn number_by_a_draft(sheet: &[u8]) -> Option<u8>
+    ensures { IfSome result (λ n. (n ≡ 10) ⊎ (n ≡ 11)) }
+{
+    only_two_of_a_draft();
+    match Sheet::read(sheet) {
+        Ok(_) => None,
+        Err(fault) => match fault.refusal {
+            Refusal::Draft(refusal) => Some(refusal.number()),
+            Refusal::Reader(_) => None,
+        },
+    }
+}

@@ -12,7 +12,8 @@ use book::Book;
 pub(crate) fn books_compared(left: Book, right: Book) -> (Finding, Tally)
     requires { (book_meaning left).steps.cues ≡ (book_meaning right).steps.cues }
     ensures finds_what_is_so { MachinesFinding (book_meaning left) (book_meaning right) result.0 }
-    ensures tally_is_theirs { TallyOf (book_meaning left) (book_meaning right) (verdict_of result.0) result.1 }
+    ensures tally_is_theirs { TallyOf (book_meaning left) (book_meaning right)
+        (verdict_of result.0) result.1 }
 {
     let mut cues = [0; ROOM];
     let Decision {

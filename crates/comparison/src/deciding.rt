@@ -54,9 +54,11 @@ impl<L, R> fmt::Display for Decision<L, R> {
 /// buffer.
 pub fn decide<L: Machine, R: Machine>(left: L, right: R, buffer: &mut [u8]) -> Decision<L, R>
     ensures machines_given_back { (result.left ≡ left) × (result.right ≡ right) }
-    ensures decided_where_alike { (L.Machine.meaning left).steps.cues ≡ (R.Machine.meaning right).steps.cues →
+    ensures decided_where_alike { (L.Machine.meaning left).steps.cues
+        ≡ (R.Machine.meaning right).steps.cues →
         Decided (L.Machine.meaning left) (R.Machine.meaning right) result buffer.old buffer.new }
-    ensures not_compared_where_unlike { ((L.Machine.meaning left).steps.cues ≢ (R.Machine.meaning right).steps.cues) →
+    ensures not_compared_where_unlike { ((L.Machine.meaning left).steps.cues
+        ≢ (R.Machine.meaning right).steps.cues) →
         NotCompared result buffer.old buffer.new }
     ensures show_fits { IfOk result.length (λ n. n ≤ length buffer.old) }
 {
@@ -83,9 +85,11 @@ pub(crate) fn decide_watched<L: Machine, R: Machine>(
     buffer: &mut [u8],
 ) -> Decision<L, R>
     ensures machines_given_back { (result.left ≡ left) × (result.right ≡ right) }
-    ensures decided_where_alike { (L.Machine.meaning left).steps.cues ≡ (R.Machine.meaning right).steps.cues →
+    ensures decided_where_alike { (L.Machine.meaning left).steps.cues
+        ≡ (R.Machine.meaning right).steps.cues →
         Decided (L.Machine.meaning left) (R.Machine.meaning right) result buffer.old buffer.new }
-    ensures not_compared_where_unlike { ((L.Machine.meaning left).steps.cues ≢ (R.Machine.meaning right).steps.cues) →
+    ensures not_compared_where_unlike { ((L.Machine.meaning left).steps.cues
+        ≢ (R.Machine.meaning right).steps.cues) →
         NotCompared result buffer.old buffer.new }
     ensures show_fits { IfOk result.length (λ n. n ≤ length buffer.old) }
 {
