@@ -1,11 +1,10 @@
 -- The same two machines on a bench once more.
 -- Assumes nothing.
-use Rattle.std.proofs.Common.{◌≡◌, ℕ, List, Ok, Err, Result, inl, inr, arith}
+use Rattle.std.proofs.Common.{◌≡◌, ℕ, List, Result, inl, inr}
 use Rattle.std.proofs.lemmas.Bool.{cases_eq}
 use Rattle.machine.specs.Meaning.{Meaning}
 use Rattle.search.specs.declared.states.Verdict.{Verdict}
 use Rattle.search.specs.declared.states.ShowRefusal.{ShowRefusal}
-use Rattle.search.specs.Search.{Search}
 use Rattle.search.specs.Calls.{Call, Answer, AskVerdict, Tally, WriteShow, Told, Tallied, Written}
 use Rattle.bench.specs.declared.benches.Bench.{Bench}
 use Rattle.bench.specs.Bench.{Called, TellsTheTruth, StaysUnlike}

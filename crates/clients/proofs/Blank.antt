@@ -4,7 +4,7 @@ use Rattle.std.proofs.Common.{◌≡◌, ℕ, ◌+◌, List, Err, Result, refl}
 use Rattle.machine.specs.Meaning.{Meaning}
 use Rattle.search.specs.declared.states.ShowRefusal.{ShowRefusal}
 use Rattle.search.specs.declared.states.ShowRefusal.TheVariants.{NoShow}
-use Rattle.search.specs.Calls.{Call, Advance, Tally, WriteShow, Answer, Worked, Tallied, Told, Written}
+use Rattle.search.specs.Calls.{Call, Advance, Tally, WriteShow, Answer, Worked, Tallied, Written}
 use Rattle.bench.specs.declared.benches.Bench.{Bench}
 use Rattle.bench.specs.Bench.{Called, StaysUnlike}
 use Rattle.clients.proofs.Handling.{Comes, replying, begins, goes_on}

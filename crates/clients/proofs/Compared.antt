@@ -1,19 +1,17 @@
 -- What a true verdict and a show told say in words of shows.
 -- Assumes nothing.
-use Rattle.std.proofs.Common.{◌≡◌, ◌≢◌, ℕ, zero, suc, ◌+◌, ◌<◌, ◌≤◌, ◌⊎◌, Bool, true, false, IsTrue, List, ◌++◌, length, take, drop, Ok, Err, Result, inl, inr, refl, sym, ap, ◌∙◌, arith}
+use Rattle.std.proofs.Common.{◌≡◌, ℕ, suc, ◌≤◌, ◌⊎◌, Bool, true, false, IsTrue, List, ◌++◌, length, take, drop, Ok, Result, inl, inr, refl, sym, ap, ◌∙◌, arith}
 use Rattle.std.specs.Result.{result_unwrap_or}
 use Rattle.std.proofs.Math.Seq.{take-append_seam}
-use Rattle.machine.specs.Show.{Show, Cued, Earlier}
-use Rattle.machine.specs.Meaning.{Meaning, allowed, leads_to, Allows, Divides}
-use Rattle.search.specs.declared.states.Joint.{Joint}
+use Rattle.machine.specs.Show.{Show}
+use Rattle.machine.specs.Meaning.{Meaning, allowed, leads_to, Divides}
 use Rattle.search.specs.declared.states.Verdict.{Verdict}
-use Rattle.search.specs.declared.states.Verdict.TheVariants.{Open, Equal, Left, Right, Full, Unlike}
+use Rattle.search.specs.declared.states.Verdict.TheVariants.{Left, Right}
 use Rattle.search.specs.declared.states.ShowRefusal.{ShowRefusal}
-use Rattle.search.specs.declared.states.ShowRefusal.TheVariants.{NoShow, TooShort}
-use Rattle.search.specs.Calls.{Answer, Written}
-use Rattle.search.specs.Rank.{NoLater, jointly, NoneDivides, MoreThan, AtMost, LeadsToOneOf, FirstInRank, NoneOfTheFirst}
-use Rattle.search.specs.Truth.{Names, FirstDifference, AllEqual, TooMany, TrueVerdict}
-use Rattle.search.specs.Runs.{Shown, ShowTold}
+use Rattle.search.specs.Calls.{Written}
+use Rattle.search.specs.Rank.{jointly, MoreThan, LeadsToOneOf, FirstInRank}
+use Rattle.search.specs.Truth.{Names, FirstDifference, AllEqual, TooMany}
+use Rattle.search.specs.Runs.{Shown}
 use Rattle.clients.specs.Comparing.{Agree, AgreeThroughout, LeadAlike, ManyApart, LeadsBack, LeadFirst, AgreeAtFirst, DifferFirst, AllowsFirst}
 
 -- Two answers of yes or no are the same, or one alone is yes.

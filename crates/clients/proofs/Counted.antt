@@ -1,6 +1,6 @@
 -- What a verdict and a tally say together.
 -- Assumes nothing.
-use Rattle.std.proofs.Common.{◌≡◌, ℕ, suc, ◌-◌, ◌<◌, ◌⊎◌, [], ◌∷◌, ◌++◌, inl, inr, refl}
+use Rattle.std.proofs.Common.{◌≡◌, ℕ, ◌-◌, ◌<◌, [], ◌∷◌, ◌++◌, inl, inr, refl}
 use Rattle.std.proofs.lemmas.Bool.{cases_eq}
 use Rattle.machine.specs.Show.{Show}
 use Rattle.machine.specs.Meaning.{Meaning}
@@ -9,11 +9,11 @@ use Rattle.search.specs.declared.states.Verdict.TheVariants.{Open, Equal, Left, 
 use Rattle.search.specs.Rank.{FirstInRank}
 use Rattle.search.specs.Search.{after}
 use Rattle.search.specs.Calls.{AskVerdict, Tally, Told, Tallied}
-use Rattle.search.specs.Units.{TallyTells, LastDivides, LastMet, verdict_after, recorded_after, show_after, link_after, RecordedInRank}
+use Rattle.search.specs.Units.{TallyTells, LastDivides, verdict_after, recorded_after, show_after, link_after, RecordedInRank}
 use Rattle.bench.specs.declared.cells.TheConstants.{LIMIT}
 use Rattle.bench.specs.declared.benches.Bench.{Bench}
 use Rattle.bench.specs.Bench.{Called}
-use Rattle.clients.specs.Counting.{MetSoFar, LastDiffers, CountedAs}
+use Rattle.clients.specs.Counting.{LastDiffers, CountedAs}
 use Rattle.clients.proofs.Compared.{agree, leads_back, leads_to_one, lead_first, differ_first}
 use Rattle.clients.proofs.Told.{Reached, truly, unlike}
 
@@ -78,11 +78,11 @@ pub counted_as : {L R : Type 0} (lefts : L → Meaning) (rights : R → Meaning)
     → Called lefts rights AskVerdict (Told v) here here → Called lefts rights Tally (Tallied w k) here here → CountedAs (lefts x) (rights y) g v w k
 counted_as lefts rights x y g here v w k so asked told = elim (cases_eq (lefts x).steps.cues (rights y).steps.cues) [
   | inl same ↦
-    let (verdict, when) = truly lefts rights x y g here so same AskVerdict (Told v) here asked in
-    let (counts, rank) = truly lefts rights x y g here so same Tally (Tallied w k) here told in
-    told_alike (lefts x) (rights y) g v _ w _ k _ (cc verdict) (cc counts) (cc counts) (after_units (lefts x) (rights y) g rank)
+      let (verdict, when) = truly lefts rights x y g here so same AskVerdict (Told v) here asked in
+      let (counts, rank) = truly lefts rights x y g here so same Tally (Tallied w k) here told in
+      told_alike (lefts x) (rights y) g v _ w _ k _ (cc verdict) (cc counts) (cc counts) (after_units (lefts x) (rights y) g rank)
   | inr differ ↦
-    let verdict = unlike lefts rights x y g here so differ AskVerdict (Told v) here asked in
-    let counts = unlike lefts rights x y g here so differ Tally (Tallied w k) here told in
-    told_alike (lefts x) (rights y) g v Unlike w 0 k 0 (cc verdict) (cc counts) (cc counts) (refl, refl)
+      let verdict = unlike lefts rights x y g here so differ AskVerdict (Told v) here asked in
+      let counts = unlike lefts rights x y g here so differ Tally (Tallied w k) here told in
+      told_alike (lefts x) (rights y) g v Unlike w 0 k 0 (cc verdict) (cc counts) (cc counts) (refl, refl)
 ]

@@ -1,6 +1,6 @@
 -- The first difference of two machines, found or expected.
 -- Assumes nothing.
-use Rattle.std.proofs.Common.{◌≡◌, ℕ, suc, ◌-◌, ◌<◌, ◌≤◌, List, length, take, Ok, Err, Result, inl, inr, sym, ap, ◌∙◌, arith}
+use Rattle.std.proofs.Common.{◌≡◌, ℕ, ◌-◌, List, length, take, Ok, Result, inl, inr, ap, ◌∙◌, arith}
 use Rattle.std.specs.Result.{result_unwrap_or}
 use Rattle.std.proofs.lemmas.Bool.{cases_eq}
 use Rattle.machine.specs.Show.{Show}
@@ -14,9 +14,9 @@ use Rattle.search.specs.Truth.{FirstDifference}
 use Rattle.search.specs.Units.{TallyTells, LastDivides, verdict_after, recorded_after, show_after, RecordedInRank}
 use Rattle.search.specs.Runs.{OneTruth}
 use Rattle.bench.specs.declared.cells.TheConstants.{LIMIT}
-use Rattle.clients.specs.Comparing.{SameCues, DifferFirst, BenchFinds}
+use Rattle.clients.specs.Comparing.{SameCues, BenchFinds}
 use Rattle.clients.specs.Counting.{LastOfFirst}
-use Rattle.clients.proofs.Compared.{first_in_rank, divide, many_apart, differ_first, first_difference, in_front}
+use Rattle.clients.proofs.Compared.{first_in_rank, divide, many_apart, first_difference, in_front}
 use Rattle.clients.proofs.Told.{Concluded}
 
 module _ (l r : Meaning) (v : Verdict) (told : Result ℕ ShowRefusal) (before now' : List ℕ) (done : Concluded l r v told before now') (room : length before ≡ 2047) where

@@ -14,3 +14,5 @@ pub mod Blank
 pub mod Counted
 pub mod SheetLemmas
 pub mod ComparisonLemmas
+pub mod Fallen
+pub mod Replies

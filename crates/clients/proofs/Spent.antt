@@ -30,10 +30,10 @@ module _ {L R : Type 0} (lefts : L → Meaning) (rights : R → Meaning) (x : L)
   once : Comes lefts rights (Advance n) (then_second n') b (0 + n) (Advance n') there
   once = goes_on lefts rights (Advance n) (then_second n') b 0 (Advance n) (Worked w) b there (begins lefts rights (Advance n) (then_second n') b) call
 
-  twice : Comes lefts rights (Advance n) (then_second n') b (0 + n + n') (Advance n') last
+  pub twice : Comes lefts rights (Advance n) (then_second n') b (0 + n + n') (Advance n') last
   twice = goes_on lefts rights (Advance n) (then_second n') b (0 + n) (Advance n') (Worked w') there last once again
 
-  reached : (g : ℕ) (c : Call) (here : Bench L R) → Comes lefts rights (Advance n) (then_second n') b g c here → Reached lefts rights x y g here
+  pub reached : (g : ℕ) (c : Call) (here : Bench L R) → Comes lefts rights (Advance n) (then_second n') b g c here → Reached lefts rights x y g here
   reached g c here so = reached_by lefts rights (Advance n) (then_second n') x y b here g c opened so
 
   pub within : Within w w' n n' recorded

@@ -2,7 +2,7 @@
 -- Assumes nothing.
 use Rattle.std.proofs.Common.{◌≡◌, ℕ, ◌+◌, ◌*◌, List, [], ◌∷◌, ◌++◌, subst, arith}
 use Rattle.machine.specs.Meaning.{Meaning}
-use Rattle.search.specs.Calls.{Call, Advance, Answer, Worked, Strategy}
+use Rattle.search.specs.Calls.{Advance, Answer, Worked, Strategy}
 use Rattle.bench.specs.declared.benches.Bench.{Bench}
 use Rattle.bench.specs.Bench.{Called, Handled, untouched, then_called}
 use Rattle.clients.proofs.Told.{Opened, Reached}

@@ -1,12 +1,12 @@
 -- What is known when enough was granted to a bench, or its verdict has fallen.
 -- Assumes nothing.
-use Rattle.std.proofs.Common.{◌≡◌, ◌≢◌, ℕ, suc, ◌<◌, ◌≤◌, ◌⊎◌, ◌↔◌, List, ◌++◌, length, take, drop, Ok, Err, Result, inl, inr, refl, sym, ap, ◌∙◌, arith}
+use Rattle.std.proofs.Common.{◌≡◌, ◌≢◌, ℕ, ◌<◌, ◌≤◌, ◌⊎◌, List, ◌++◌, length, take, drop, Err, Result, inl, inr, refl, sym, ap, ◌∙◌, arith}
 use Rattle.std.specs.Result.{result_unwrap_or}
 use Rattle.std.proofs.lemmas.Bool.{cases_eq}
 use Rattle.machine.specs.Show.{Show}
 use Rattle.machine.specs.Meaning.{Meaning}
 use Rattle.search.specs.declared.states.Verdict.{Verdict}
-use Rattle.search.specs.declared.states.Verdict.TheVariants.{Open, Equal, Left, Right, Full, Unlike}
+use Rattle.search.specs.declared.states.Verdict.TheVariants.{Open, Left, Right, Unlike}
 use Rattle.search.specs.declared.states.ShowRefusal.{ShowRefusal}
 use Rattle.search.specs.declared.states.ShowRefusal.TheVariants.{NoShow}
 use Rattle.search.specs.Search.{after, unlike_search}

@@ -11,6 +11,9 @@ module _ (l r : Meaning) where
   abbrev pub SameCues : Type 0
   SameCues = l.steps.cues ≡ r.steps.cues
 
+  abbrev pub NotSameCues : Type 0
+  NotSameCues = SameCues → ⊥
+
   -- Both machines say the same of a show.
   abbrev pub Agree : Show → Type 0
   Agree s = allowed l s ≡ allowed r s
@@ -69,7 +72,7 @@ module _ (l r : Meaning) where
   FullSays v = SameCues → (v ≡ Full) ↔ (ManyApart 2049 × AgreeAtFirst 2048)
 
   abbrev pub UnlikeSays : Verdict → Type 0
-  UnlikeSays v = (v ≡ Unlike) ↔ (SameCues → ⊥)
+  UnlikeSays v = (v ≡ Unlike) ↔ NotSameCues
 
 -- The first machine allows this show and the second does not, and it is the first show of which they do not say the same.
 pub record AllowsFirst (l r : Meaning) (s : Show) : Type 0 where

@@ -1,6 +1,6 @@
 -- What clients say of the tally of a bench, in words of shows and of where they lead.
 -- Assumes nothing.
-use Rattle.std.specs.Prelude.{◌≡◌, ℕ, suc, ◌-◌, ◌<◌, ◌⊎◌, [], ◌∷◌, ◌++◌}
+use Rattle.std.specs.Prelude.{◌≡◌, ℕ, suc, ◌-◌, ◌<◌, ◌⊎◌, List, [], ◌∷◌, ◌++◌, take}
 use Rattle.machine.specs.Show.{Show}
 use Rattle.machine.specs.Meaning.{Meaning}
 use Rattle.search.specs.declared.states.Verdict.{Verdict}
@@ -65,6 +65,10 @@ module _ (l r : Meaning) (grant worked recorded : ℕ) where
 -- However the first shows to lead where they lead are listed, this show is the last of so many.
 abbrev pub LastOfFirst : Meaning → Meaning → ℕ → Show → Type 0
 LastOfFirst l r count s = (shows : ℕ → Show) → LeadFirst l r count shows → s ≡ shows (count - 1)
+
+-- So the show is that stands at the front of a buffer: how many were met, and how many cues the show has.
+abbrev pub PlaceFound : Meaning → Meaning → List ℕ → ℕ × ℕ → Type 0
+PlaceFound l r buffer found = LastOfFirst l r found.0 (take found.1 buffer)
 
 -- What a verdict and a tally say together.
 abbrev pub CountedAs : Meaning → Meaning → ℕ → Verdict → ℕ → ℕ → Type 0

@@ -6,3 +6,4 @@ pub mod Counting
 pub mod Books
 pub mod Sheets
 pub mod Comparisons
+pub mod Granting

@@ -1,11 +1,14 @@
 //! Uses of a bench.
-ghost use Rattle.std.specs.Prelude.{◌≡◌, ◌≢◌, ◌+◌, ◌<◌, ◌≤◌, IsTrue, IfSome, take};
+ghost use Rattle.std.specs.Prelude.{◌≡◌, ◌≢◌, ℕ, ◌+◌, ◌<◌, ◌≤◌, ◌↔◌, IsTrue, IfSome, take};
 ghost use Rattle.search.specs.declared.states.Verdict.TheVariants.{Open};
-ghost use Rattle.clients.specs.Comparing.{SameCues, EqualSays, FullSays, UnlikeSays, SideSays, WritesFront, DifferFirst, BenchFinds};
-ghost use Rattle.clients.specs.Counting.{LastOfFirst, CountedAs};
+ghost use Rattle.clients.specs.Comparing.{SameCues, NotSameCues, EqualSays, FullSays, UnlikeSays};
+ghost use Rattle.clients.specs.Comparing.{SideSays, WritesFront, DifferFirst, BenchFinds};
+ghost use Rattle.clients.specs.Granting.{AtOnce, InAnyCalls, AreSame, AreTooLarge, NamesSide};
+ghost use Rattle.clients.specs.Counting.{PlaceFound, CountedAs};
 
 use bench::{Bench, LIMIT, ShowRefusal, Verdict};
 use machine::Machine;
+use search::{Side, decided_in_time, whole_runs};
 
 // Room for the longest show that a bench finds.
 const LONGEST: usize = 2047;
@@ -18,10 +21,11 @@ pub fn patient<L: Machine + Drop, R: Machine + Drop>(
     buffer: &mut [u8; LONGEST],
 ) -> (Verdict, usize)
     ensures decided { result.0 ≢ Open }
-    ensures equal { EqualSays (L.Machine.meaning left) (R.Machine.meaning right) result.0 }
-    ensures full { FullSays (L.Machine.meaning left) (R.Machine.meaning right) result.0 }
-    ensures unlike { UnlikeSays (L.Machine.meaning left) (R.Machine.meaning right) result.0 }
-    ensures sided { SideSays (L.Machine.meaning left) (R.Machine.meaning right) result.0 (take result.1 buffer.new) }
+    ensures equal { EqualSays (L.meaning left) (R.meaning right) result.0 }
+    ensures full { FullSays (L.meaning left) (R.meaning right) result.0 }
+    ensures unlike { UnlikeSays (L.meaning left) (R.meaning right) result.0 }
+    ensures sided { SideSays
+        (L.meaning left) (R.meaning right) result.0 (take result.1 buffer.new) }
     ensures later_bytes_stay { WritesFront result.1 buffer.old buffer.new }
 {
     let mut bench = Bench::open(left, right);
@@ -107,8 +111,8 @@ pub fn is_first_difference<L: Machine + Drop, R: Machine + Drop>(
     right: R,
     expected: &[u8],
 ) -> bool
-    ensures found { IsTrue result → DifferFirst (L.Machine.meaning left) (R.Machine.meaning right) expected.now }
-    ensures sure { BenchFinds (L.Machine.meaning left) (R.Machine.meaning right) expected.now → IsTrue result }
+    ensures found { IsTrue result → DifferFirst (L.meaning left) (R.meaning right) expected.now }
+    ensures sure { BenchFinds (L.meaning left) (R.meaning right) expected.now → IsTrue result }
 {
     let mut bench = Bench::open(left, right);
     bench.advance(LIMIT);
@@ -126,7 +130,7 @@ pub fn place_of_difference<L: Machine + Drop, R: Machine + Drop>(
     right: R,
     buffer: &mut [u8; LONGEST],
 ) -> Option<(u16, usize)>
-    ensures last { IfSome result (λ found. LastOfFirst (L.Machine.meaning left) (R.Machine.meaning right) found.0 (take found.1 buffer.new)) }
+    ensures { IfSome result (PlaceFound (L.meaning left) (R.meaning right) buffer.new) }
 {
     let mut bench = Bench::open(left, right);
     bench.advance(LIMIT);
@@ -143,7 +147,7 @@ pub fn counted<L: Machine + Drop, R: Machine + Drop>(
     right: R,
     grant: u32,
 ) -> (Verdict, u16, u16)
-    ensures { CountedAs (L.Machine.meaning left) (R.Machine.meaning right) grant result.0 result.1 result.2 }
+    ensures { CountedAs (L.meaning left) (R.meaning right) grant result.0 result.1 result.2 }
 {
     let mut bench = Bench::open(left, right);
     bench.advance(grant);
@@ -159,8 +163,9 @@ pub fn most_told<L: Machine + Drop, R: Machine + Drop>(
     times: u16,
     buffer: &mut [u8],
 ) -> u16
-    ensures none { (SameCues (L.Machine.meaning left) (R.Machine.meaning right) → ⊥) → result ≡ 0 }
-    ensures buffer_stays { (SameCues (L.Machine.meaning left) (R.Machine.meaning right) → ⊥) → buffer.new ≡ buffer.old }
+    ensures none { NotSameCues (L.meaning left) (R.meaning right) → result ≡ 0 }
+    ensures buffer_stays { NotSameCues (L.meaning left) (R.meaning right) →
+        buffer.new ≡ buffer.old }
 {
     let mut bench = Bench::open(left, right);
     let mut most = 0;
@@ -215,4 +220,73 @@ pub fn given_back<L: Machine, R: Machine>(
     let verdict = bench.verdict();
     let (left, right) = bench.release();
     (verdict, left, right)
+}
+
+/// Whether so much is enough for a verdict, whichever machines are compared.
+pub fn is_enough(grant: u32) -> bool
+    ensures { IsTrue result ↔ AtOnce grant }
+{
+    decided_in_time(LIMIT, grant)
+}
+
+/// How much is still to be granted to be sure of a verdict, when so much was.
+pub fn still_to_grant(granted: u32) -> u32
+    ensures { (more : ℕ) → (result ≤ more) ↔ InAnyCalls (granted + more) }
+{
+    whole_runs(LIMIT, granted)
+}
+
+/// Grants, and when a verdict has fallen, grants all that a bench can use once more. Answers verdict and tally of each time.
+pub fn grants_after_verdict<L: Machine + Drop, R: Machine + Drop>(
+    left: L,
+    right: R,
+    grant: u32,
+) -> Option<((Verdict, (u16, u16)), (Verdict, (u16, u16)))>
+    ensures { IfSome result (λ found. found.0 ≡ found.1) }
+{
+    let mut bench = Bench::open(left, right);
+    bench.advance(grant);
+    let verdict = bench.verdict();
+    if verdict.is_open() {
+        return None;
+    }
+    let tally = bench.tally();
+    bench.advance(LIMIT);
+    let verdict_then = bench.verdict();
+    let tally_then = bench.tally();
+    Some(((verdict, tally), (verdict_then, tally_then)))
+}
+
+/// What a verdict answers when it is asked.
+#[derive(Drop)]
+pub struct Replies {
+    /// Whether it is equal.
+    pub equal: bool,
+    /// Whether it is full.
+    pub full: bool,
+    /// Which side it names.
+    pub side: Option<Side>,
+    /// Whether it is unlike.
+    pub unlike: bool,
+}
+
+/// Decides two machines, and asks the verdict each of its questions.
+pub fn ask_all<L: Machine + Drop, R: Machine + Drop>(left: L, right: R) -> Replies
+    ensures equal { SameCues (L.meaning left) (R.meaning right) →
+        (IsTrue result.equal ↔ AreSame (L.meaning left) (R.meaning right)) }
+    ensures full { SameCues (L.meaning left) (R.meaning right) →
+        (IsTrue result.full ↔ AreTooLarge (L.meaning left) (R.meaning right)) }
+    ensures sided { SameCues (L.meaning left) (R.meaning right) →
+        NamesSide (L.meaning left) (R.meaning right) result.side }
+    ensures unlike { IsTrue result.unlike ↔ NotSameCues (L.meaning left) (R.meaning right) }
+{
+    let mut bench = Bench::open(left, right);
+    bench.advance(LIMIT);
+    let verdict = bench.verdict();
+    Replies {
+        equal: verdict.is_equal(),
+        full: verdict.is_full(),
+        side: verdict.side(),
+        unlike: verdict.is_unlike(),
+    }
 }

@@ -1,8 +1,8 @@
-use Rattle.std.proofs.Common.{◌≡◌, ℕ, ◌*◌, List, Result, ap, ◌∙◌, arith}
+use Rattle.std.proofs.Common.{◌≡◌, ℕ, ◌*◌, List, Result, ◌∙◌, arith}
 use Rattle.search.specs.declared.states.Verdict.{Verdict}
 use Rattle.search.specs.declared.states.ShowRefusal.{ShowRefusal}
 use Rattle.clients.specs.declared.benches.Findings.{Findings}
-use Rattle.clients.proofs.Told.{Opened, Reached, kept}
+use Rattle.clients.proofs.Told.{kept}
 use Rattle.clients.proofs.Steady.{at_first, once_more, steady, one_grant}
 use Rattle.clients.proofs.Again.{opened_over, one_state, one_verdict, one_tally, one_show}
 use Rattle.clients.proofs.benches.either_way.Goals as goal
@@ -16,7 +16,7 @@ pub loop-init : goal.loop-init
 loop-init g c = at_first g.L.Machine.meaning g.R.Machine.meaning 1 c.open-singly.result
 
 pub loop-preserved : goal.loop-preserved
-loop-preserved g c = once_more g.L.Machine.meaning g.R.Machine.meaning 1 c.open-singly.result c.loop.counter _ c.loop.singly _ c.loop.invariant c.advance-in-loop.ensures.called
+loop-preserved g c = once_more g.L.Machine.meaning g.R.Machine.meaning 1 c.open-singly.result c.loop.counter _ c.loop.singly _ c.loop.invariant c.advance-in-loop.ensures
 
 pub returns : goal.returns
 returns g c =
@@ -25,10 +25,10 @@ returns g c =
     let x = c.args.left in
     let y = c.args.right in
     let first = one_grant lefts rights c.args.grant c.open-at_once.result _ x y c.advance.new.self
-    record { machines = c.open-at_once.ensures.machines; truth = c.open-at_once.ensures.truth; stays = c.open-at_once.ensures.unlike } c.advance.ensures.called in
+    record { machines = c.open-at_once.ensures.machines_taken_in; truth = c.open-at_once.ensures.tells_the_truth; stays = c.open-at_once.ensures.stays_unlike } c.advance.ensures in
     let same = kept lefts rights x y c.args.grant c.advance.new.self first in
     let opened = opened_over lefts rights x _ y _ c.open-singly.result (c.release-left.ensures.0 ∙ same.0) (c.release-left.ensures.1 ∙ same.1)
-    c.open-singly.ensures.machines c.open-singly.ensures.truth c.open-singly.ensures.unlike in
+    c.open-singly.ensures.machines_taken_in c.open-singly.ensures.tells_the_truth c.open-singly.ensures.stays_unlike in
     let again = steady lefts rights 1 c.open-singly.result c.loop.counter x y c.loop.singly opened c.loop.invariant in
     let e = one_state lefts rights x y c.args.grant (c.loop.counter * 1) c.advance.new.self c.loop.singly (omega arith) first again in
     let verdict = one_verdict lefts rights c.advance.new.self c.loop.singly e _ _ c.verdict.ensures c.verdict-2.ensures in

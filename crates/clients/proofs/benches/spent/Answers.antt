@@ -5,13 +5,13 @@ use Rattle.clients.proofs.benches.spent.Goals as goal
 pub overflow_sub-result : goal.overflow_sub-result
 overflow_sub-result g c =
     let told = within g.L.Machine.meaning g.R.Machine.meaning c.args.left c.args.right c.open-bench.result c.advance-worked.new.self c.advance-worked_then.new.self _ _ _ _ _ _
-    record { machines = c.open-bench.ensures.machines; truth = c.open-bench.ensures.truth; stays = c.open-bench.ensures.unlike }
-    c.advance-worked.ensures.called c.advance-worked_then.ensures.called c.tally-recorded.ensures.called in
+    record { machines = c.open-bench.ensures.machines_taken_in; truth = c.open-bench.ensures.tells_the_truth; stays = c.open-bench.ensures.stays_unlike }
+    c.advance-worked.ensures c.advance-worked_then.ensures c.tally-recorded.ensures.called in
     omega (arith, told.worked)
 
 pub returns : goal.returns
 returns g c =
     let told = within g.L.Machine.meaning g.R.Machine.meaning c.args.left c.args.right c.open-bench.result c.advance-worked.new.self c.advance-worked_then.new.self _ _ _ _ _ _
-    record { machines = c.open-bench.ensures.machines; truth = c.open-bench.ensures.truth; stays = c.open-bench.ensures.unlike }
-    c.advance-worked.ensures.called c.advance-worked_then.ensures.called c.tally-recorded.ensures.called in
+    record { machines = c.open-bench.ensures.machines_taken_in; truth = c.open-bench.ensures.tells_the_truth; stays = c.open-bench.ensures.stays_unlike }
+    c.advance-worked.ensures c.advance-worked_then.ensures c.tally-recorded.ensures.called in
     record { granted = omega (arith, told.first, told.second); room = omega (arith, told.worked, told.room) }

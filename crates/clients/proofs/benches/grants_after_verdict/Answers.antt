@@ -1,0 +1,34 @@
+use Rattle.std.proofs.Common.{◌≡◌, ◌≢◌, ℕ, ◌+◌, arith}
+use Rattle.search.specs.declared.states.Verdict.{Verdict}
+use Rattle.search.specs.declared.states.Verdict.TheVariants.{Open}
+use Rattle.bench.specs.declared.cells.TheConstants.{LIMIT}
+use Rattle.clients.proofs.Told.{Opened}
+use Rattle.clients.proofs.Steady.{one_grant}
+use Rattle.clients.proofs.Again.{one_verdict, one_tally}
+use Rattle.clients.proofs.Spent.{twice, reached}
+use Rattle.clients.proofs.Fallen.{nothing_changes}
+use Rattle.clients.proofs.benches.grants_after_verdict.Goals as goal
+
+-- The pairs are the same when all parts are.
+same_pairs : {v w : Verdict} {a b c d : ℕ} → v ≡ w → a ≡ c → b ≡ d → ◌≡◌ {A = Verdict × (ℕ × ℕ)} (v, (a, b)) (w, (c, d))
+same_pairs e f g = cc
+
+pub returns : goal.returns
+returns g c =
+    let lefts = g.L.Machine.meaning in
+    let rights = g.R.Machine.meaning in
+    let x = c.args.left in
+    let y = c.args.right in
+    let b = c.open-bench.result in
+    let here = c.advance.new.self in
+    let there = c.advance-2.new.self in
+    let opened : Opened lefts rights x y b = record { machines = c.open-bench.ensures.machines_taken_in; truth = c.open-bench.ensures.tells_the_truth; stays = c.open-bench.ensures.stays_unlike } in
+    let first = one_grant lefts rights c.args.grant b _ x y here opened c.advance.ensures in
+    let come = twice lefts rights x y b here there c.args.grant LIMIT _ _ _ _ opened c.advance.ensures c.advance-2.ensures c.tally-tally_then.ensures.called in
+    let second = reached lefts rights x y b here there c.args.grant LIMIT _ _ _ _ opened c.advance.ensures c.advance-2.ensures c.tally-tally_then.ensures.called
+    (0 + c.args.grant + LIMIT) _ there come in
+    let shut : here.state.verdict ≢ Open = λ e. let told = c.verdict-verdict.ensures.answered in let closed = c.if-is_open.false in let is = c.is_open.ensures.just_for_open.1 (cc (told, e)) in cc (closed, is) in
+    let e = nothing_changes lefts rights x y c.args.grant (0 + c.args.grant + LIMIT) here there first second shut (omega arith) in
+    let verdict = one_verdict lefts rights here there e _ _ c.verdict-verdict.ensures c.verdict-verdict_then.ensures in
+    let tally = one_tally lefts rights here there e _ _ _ _ c.tally-tally.ensures.called c.tally-tally_then.ensures.called in
+    same_pairs verdict tally.0 tally.1
