@@ -42,8 +42,8 @@ joints l r v t tally e =
 tells_fewer : (l r : Meaning) (limit : ℕ) (shows : ℕ → Show) (w n : ℕ) (v : Verdict) → TallyTells l r limit shows w n v → w ≤ n
 tells_fewer l r limit shows w n Open tells = omega (arith, tells)
 tells_fewer l r limit shows w n Equal tells = omega (arith, tells.0)
-tells_fewer l r limit shows w n Left tells = elim tells.met [ inl none ↦ omega (arith, none.1) | inr (x, c, inside, worked, e) ↦ omega (arith, inside, worked) ]
-tells_fewer l r limit shows w n Right tells = elim tells.met [ inl none ↦ omega (arith, none.1) | inr (x, c, inside, worked, e) ↦ omega (arith, inside, worked) ]
+tells_fewer l r limit shows w n Left tells = elim tells.met [ inl none ↦ omega (arith, none.1) | inr met ↦ omega (arith, met.inside, met.last) ]
+tells_fewer l r limit shows w n Right tells = elim tells.met [ inl none ↦ omega (arith, none.1) | inr met ↦ omega (arith, met.inside, met.last) ]
 tells_fewer l r limit shows w n Full tells = omega (arith, tells.inside, tells.last)
 tells_fewer l r limit shows w n Unlike tells = omega (arith, tells.0)
 
@@ -55,8 +55,8 @@ pub all_worked : (l r : Meaning) (v : Verdict) (t : Tally) → TallyOf l r v t �
 all_worked l r v t tally e = (subst (TallyTells l r _ tally.shows t.worked t.recorded) e tally.tells).0
 
 not_all : (l r : Meaning) (limit : ℕ) (shows : ℕ → Show) (w n : ℕ) (v : Verdict) → (v ≡ Left) ⊎ (v ≡ Right) → TallyTells l r limit shows w n v → w < n
-not_all l r limit shows w n Left side tells = elim tells.met [ inl none ↦ omega (arith, none.0, none.1) | inr (x, c, inside, worked, e) ↦ omega (arith, inside, worked) ]
-not_all l r limit shows w n Right side tells = elim tells.met [ inl none ↦ omega (arith, none.0, none.1) | inr (x, c, inside, worked, e) ↦ omega (arith, inside, worked) ]
+not_all l r limit shows w n Left side tells = elim tells.met [ inl none ↦ omega (arith, none.0, none.1) | inr met ↦ omega (arith, met.inside, met.last) ]
+not_all l r limit shows w n Right side tells = elim tells.met [ inl none ↦ omega (arith, none.0, none.1) | inr met ↦ omega (arith, met.inside, met.last) ]
 not_all l r limit shows w n Open side tells = omega (arith, tells)
 not_all l r limit shows w n Equal side tells = absurd (elim side [ inl e ↦ cc | inr e ↦ cc ])
 not_all l r limit shows w n Full side tells = absurd (elim side [ inl e ↦ cc | inr e ↦ cc ])
