@@ -16,3 +16,4 @@ pub mod SheetLemmas
 pub mod ComparisonLemmas
 pub mod Fallen
 pub mod Replies
+pub mod Below

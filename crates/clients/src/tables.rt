@@ -5,7 +5,7 @@ ghost use Rattle.machine.specs.Table.{table_meaning, description_of};
 ghost use Rattle.clients.specs.Tables.{IsOutside, IsWithin, NamesBeyond};
 
 use examples::flight;
-use machine::{FillRefusal, Machine, Table, allows, tables_mean_what_they_hold};
+use machine::{FillRefusal, Machine, Table, allows};
 
 /// Replaces a table by what is described, if that is a table, and says whether it did. A refusal leaves the table as it was.
 pub fn replaced(table: &mut Table, states: u8, cues: u8, next: &[u8], closing: u64) -> bool
@@ -72,7 +72,6 @@ pub fn cells(table: &Table) -> usize
     ensures at_least_one { 1 ≤ result }
     ensures at_most_2048 { result ≤ 2048 }
 {
-    tables_mean_what_they_hold();
     usize::from(table.states()) * usize::from(table.cues())
 }
 

@@ -1,6 +1,7 @@
 //! Uses of watches, and of what any machine says of a show.
-ghost use Rattle.std.specs.Prelude.{◌≡◌, ◌↔◌, ◌≤◌, ◌^◌, ◌+◌, [], ◌++◌, IsTrue, length, true};
+ghost use Rattle.std.specs.Prelude.{◌≡◌, ◌↔◌, ◌<◌, ◌≤◌, ◌^◌, ◌+◌, [], ◌++◌, IsTrue, length, true};
 ghost use Rattle.std.specs.Bool.{OnTrue, OnFalse};
+ghost use Rattle.machine.specs.Show.{Show};
 ghost use Rattle.machine.specs.Meaning.{allowed, leads_to};
 ghost use Rattle.machine.specs.Watch.{standing, after_cues};
 ghost use Rattle.clients.specs.Watches.{FitsAShow, IsDue, AllTaken};
@@ -75,6 +76,12 @@ pub fn all_cues<M: Machine>(machine: &M) -> u32
 {
     low_bits(machine.cues())
 }
+
+/// Wherever a show leads, of cues or of any other numbers, the position fits into 64 bits. That is so of what a machine means,
+/// whether or not anybody asks it.
+pub fn places_fit<M: Machine>()
+    ensures { (x : M) (s : Show) → leads_to (M.Machine.meaning x).steps s < 2 ^ 64 }
+{}
 
 // As many bits as this, from the lowest on.
 fn low_bits(count: u8) -> u32
