@@ -25,4 +25,6 @@ pub use tables::{
     cells, filled_alike, first_fault, flight_closes_past_its_states, flight_leads_past_its_states,
     made_as_filled, new_allows, replaced,
 };
-pub use watches::{all_cues, allows_rest, closed_at_once, place_of, places_fit, rehearsed, takes_cue};
+pub use watches::{
+    all_cues, allows_rest, closed_at_once, place_of, places_fit, rehearsed, takes_cue,
+};
