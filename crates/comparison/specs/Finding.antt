@@ -58,7 +58,7 @@ module _ (s : Comparison) where
   abbrev pub AreEqual : Type 0
   AreEqual = NoShowDivides × AtMost (left_machine s).steps (right_machine s).steps LIMIT
 
-  -- They have more, and none of the first so many in rank divides them.
+  -- More joint positions than that, and of as many as are first in rank no one divides the books.
   abbrev pub AreTooMany : Type 0
   AreTooMany = MoreThan (left_machine s).steps (right_machine s).steps LIMIT × NoneOfTheFirstDivides LIMIT
 

@@ -77,7 +77,7 @@ pub fn decide<L: Machine, R: Machine>(left: L, right: R, buffer: &mut [u8]) -> D
     }
 }
 
-// The same with each machine under a begun watch with no cue taken. A watch without cues means the machine below, so nothing that is
+// The same, where a watch that was just begun stands over each machine. Such a watch means what its machine means: nothing that is
 // decided changes.
 pub(crate) fn decide_watched<L: Machine, R: Machine>(
     left: L,

@@ -11,12 +11,12 @@ use sheet::Sheet;
 
 /// Compares the two books of a sheet, and answers what comes of it.
 ///
-/// Here is the whole promise. A sheet is refused exactly with its fault, the first in reading order (`refused_by_its_fault`). Any other says
-/// something, and that is reported (`reported_as_written`): "equal" exactly when no show of any length divides the two books and they have at
-/// most as many joint positions as a bench can record; "full" exactly when they have more and none of the first so many in rank
-/// divides; and else the first show that divides them, by the side that allows it. A show divides the books when the rules of the one
-/// all hold of it and some rule of the other does not. There is no third outcome (`fault_or_report`), and just its text is to be
-/// printed for the sheet (`just_this_printed`).
+/// This is all that is promised. A sheet is refused exactly with its fault, the first in reading order (`refused_by_its_fault`). Any
+/// other says something, and that is reported (`reported_as_written`): "equal" exactly when the two books are divided by no show,
+/// however long, and a bench can record all their joint positions; "full" exactly when there are more of those than that, and as many
+/// as it can record, in rank, divide nothing; and else the first show that divides the books, by the side that allows it. A show
+/// divides them when every rule of the one holds of it and some rule of the other does not. There is no third outcome
+/// (`fault_or_report`), and just its text is to be printed for the sheet (`just_this_printed`).
 pub fn compared(sheet: &[u8]) -> Outcome<'_>
     ensures fault_or_report { OutcomeOf result sheet.now }
     ensures refused_by_its_fault { RefusedByItsFault result sheet.now }

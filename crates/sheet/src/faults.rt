@@ -41,8 +41,8 @@ pub enum Layer {
     Draft,
 }
 
-/// A fault: why a sheet is turned down, and the line to which it belongs, from 1. A line that is missing or left over has the
-/// number that it would have; a sheet that is too long is at fault in line 0.
+/// A fault: why a sheet is turned down, and the line to which it belongs, from 1. Where a line is missing, or bytes are left
+/// over, the number is that of the line which would stand there; a sheet that is too long is at fault in line 0.
 #[derive(Clone, Copy, Debug, PartialEq, Eq, Hash)]
 pub struct Fault {
     /// Why.
