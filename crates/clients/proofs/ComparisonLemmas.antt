@@ -10,6 +10,7 @@ use Rattle.rules.specs.States.{Undivided}
 use Rattle.book.specs.Book.{NotToldApart}
 use Rattle.search.specs.declared.states.Verdict.{Verdict}
 use Rattle.search.specs.declared.states.Verdict.TheVariants.{Open, Equal, Left, Right, Full, Unlike}
+use Rattle.search.specs.Rank.{Playable, jointly}
 use Rattle.search.specs.Units.{TallyTells}
 use Rattle.sheet.specs.declared.faults.Refusal.TheVariants.{Reader}
 use Rattle.sheet.specs.declared.faults.ReaderRefusal.TheVariants.{TooLong}
@@ -72,6 +73,14 @@ none_fewer d before now' none = omega (arith, none.worked)
 pub none_told : (cues : ℕ) (rules : List Terms) (t u : Show) → rules ≡ [] → NotToldApart (record { cues = cues; rules = rules }) t u
 none_told cues [] t u e i r there = absurd (cc there)
 none_told cues (x ∷ rules) t u e i r there = absurd (cc e)
+
+-- Where all shows lead to one joint position, no more than one is recorded.
+pub at_most_one : (l r : Meaning) (v : Verdict) (t : Tally) → TallyOf l r v t
+    → ((a b : Show) → Playable l.steps r.steps a → Playable l.steps r.steps b → jointly l.steps r.steps a ≡ jointly l.steps r.steps b) → t.recorded ≤ 1
+at_most_one l r v t tally one = elim (cases_lt 1 t.recorded) [
+  | inr few ↦ few
+  | inl more ↦ absurd (tally.first.apart 0 1 (omega arith) more (one _ _ (tally.first.playable 0 (omega (arith, more))) (tally.first.playable 1 more)))
+]
 
 -- A rule that does not tell two shows apart holds of both or of neither.
 pub held_over : (r : Terms) (t u : Show) → Undivided r.template r.n (word_of r t) (word_of r u) → HoldsOf r t → HoldsOf r u

@@ -18,10 +18,9 @@ pub record IsSheetOf (sheet : Text) (s : Comparison) : Type 0 where
 abbrev pub OneJoint : Comparison → Show → Show → Type 0
 OneJoint s t u = jointly (left_machine s).steps (right_machine s).steps t ≡ jointly (left_machine s).steps (right_machine s).steps u
 
--- Where neither book has a rule, all shows lead to one joint position.
-abbrev pub OneWithoutRules : Text → Type 0
-OneWithoutRules sheet = (s : Comparison) → IsSheetOf sheet s → s.left ≡ [] → s.right ≡ []
-    → (t u : Show) → Cued (length s.names) t → Cued (length s.names) u → OneJoint s t u
+-- Where neither book has a rule, so many joint positions are one at most.
+abbrev pub AtMostOneWithoutRules : Text → ℕ → Type 0
+AtMostOneWithoutRules sheet n = (s : Comparison) → IsSheetOf sheet s → s.left ≡ [] → s.right ≡ [] → n ≤ 1
 
 -- Where two shows lead to one joint position, a rule of either book that holds of the one holds of the other.
 abbrev pub HeldAlike : Text → Type 0

@@ -2,23 +2,22 @@
 ghost use Rattle.std.specs.Prelude.{◌≡◌, ◌≢◌, ◌<◌, ◌⊎◌, ◌↔◌, length, codes, IsTrue, IfOk, IfSome, string_bytes};
 ghost use Rattle.comparison.specs.Printing.{PrintedFor};
 ghost use Rattle.comparison.specs.declared.answering.AnswerError.TheVariants.{Reading, Writing};
-ghost use Rattle.clients.specs.Comparisons.{OneWithoutRules, HeldAlike, HaveJoints, NoneByTheLeftAlone, TakesAtMost, HoldsTheSame};
+ghost use Rattle.clients.specs.Comparisons.{AtMostOneWithoutRules, HeldAlike, HaveJoints, NoneByTheLeftAlone, TakesAtMost, HoldsTheSame};
 
 use bench::Verdict;
-use comparison::{
-    AnswerError, Decision, Finding, Outcome, Report, Tally, answer, compared, decide,
-};
+use comparison::{AnswerError, Decision, Finding, Outcome, answer, compared, decide};
 use machine::Machine;
 use std::alloc::{AllocError, Global};
 use std::io::{Read, Write};
 
-/// The tally of the two books of a sheet. What it counts are joint positions, which the rules tell apart.
-pub fn tally_of(sheet: &[u8]) -> Option<Tally>
-    ensures one_without_rules { IfSome result (λ _. OneWithoutRules sheet.now) }
-    ensures held_alike { IfSome result (λ _. HeldAlike sheet.now) }
+/// How many joint positions of the two books of a sheet are recorded. Where neither book has a rule there is one at most, since it
+/// is the rules that tell joint positions apart.
+pub fn recorded_of(sheet: &[u8]) -> Option<u16>
+    ensures at_most_one_without_rules { IfSome result (AtMostOneWithoutRules sheet.now) }
+    ensures rules_hold_alike { IfSome result (λ _. HeldAlike sheet.now) }
 {
     match compared(sheet) {
-        Outcome::Compared(report) => Some(report.tally),
+        Outcome::Compared(report) => Some(report.tally.recorded),
         Outcome::Refused(_) => None,
     }
 }

@@ -14,7 +14,7 @@ mod watches;
 
 pub use comparisons::{
     complaint, decided_into, fails_in_reading, is_found_equal, is_printed_for, joints_where_equal,
-    left_to_work, printed_when_too_long, tally_of, told_alike,
+    left_to_work, printed_when_too_long, recorded_of, told_alike,
 };
 pub use sheets::{
     fault_of_nothing, fits_a_page, is_told_too_long, name_field, number_by_a_draft,
