@@ -204,13 +204,8 @@ pub fn spare<L: Machine, R: Machine>(bench: &Bench<L, R>) -> (Verdict, u16, u16)
     (bench.verdict(), recorded - worked, 2048 - recorded)
 }
 
-/// Grants to a bench so often, and gives both machines back with the verdict.
-pub fn given_back<L: Machine, R: Machine>(
-    left: L,
-    right: R,
-    grant: u32,
-    times: u16,
-) -> (Verdict, L, R)
+/// Grants to a bench so often, and gives both machines back with the verdict. They are of one kind, so they could be exchanged.
+pub fn given_back<M: Machine>(left: M, right: M, grant: u32, times: u16) -> (Verdict, M, M)
     ensures { (result.1 ≡ left) × (result.2 ≡ right) }
 {
     let mut bench = Bench::open(left, right);
