@@ -4,7 +4,7 @@
     tools/planted.py try COPY CRATE..    plants them in the copy COPY, which is made or brought up to date, and says of each
                                          where it is refused; the last line counts those that did not end as their list says
     tools/planted.py write COPY CRATE..  plants only those whose block does not say yet where, and writes it there
-    tools/planted.py table               prints the tables of docs/PROMISES.md: every bug of the lists
+    tools/planted.py table               prints every bug of the lists, in tables by crate and by what refuses it
 
 A list is blocks with a blank line between; a line that begins with # is not read. A block's lines:
 
