@@ -58,7 +58,8 @@ pub fn left_to_work<L: Machine + Drop, R: Machine + Drop>(left: L, right: R) -> 
         result.1 ≡ 0 }
 {
     let Decision { verdict, tally, .. } = decide(left, right, &mut []);
-    (verdict, tally.recorded - tally.worked)
+    let unworked = tally.recorded - tally.worked;
+    (verdict, unworked)
 }
 
 /// Decides two machines into a buffer. Where they have different cue counts, the buffer stays as it was.
