@@ -15,7 +15,7 @@ const LONGEST: usize = 2047;
 
 /// Compares two machines by small grants, and stops when a verdict falls. Answers the verdict, and the length of the show that
 /// then stands at the front of the buffer: the first of which the machines do not say the same.
-pub fn patient<L: Machine + Drop, R: Machine + Drop>(
+fn patient<L: Machine + Drop, R: Machine + Drop>(
     left: L,
     right: R,
     buffer: &mut [u8; LONGEST],
@@ -42,19 +42,19 @@ pub fn patient<L: Machine + Drop, R: Machine + Drop>(
 
 /// What a bench tells when it is asked for everything.
 #[derive(Drop)]
-pub struct Findings {
+struct Findings {
     /// The verdict.
-    pub verdict: Verdict,
+    verdict: Verdict,
     /// How many joint positions are worked, and how many recorded.
-    pub tally: (u16, u16),
+    tally: (u16, u16),
     /// How many cues the show has, or why none was written.
-    pub length: Result<usize, ShowRefusal>,
+    length: Result<usize, ShowRefusal>,
     /// What stands in a buffer that held zeros.
-    pub show: [u8; LONGEST],
+    show: [u8; LONGEST],
 }
 
 /// Grants all at once to two machines, and then by single units to the same two. Answers what was found at the end of each.
-pub fn either_way<L: Machine + Drop, R: Machine + Drop>(
+fn either_way<L: Machine + Drop, R: Machine + Drop>(
     left: L,
     right: R,
     grant: u32,
@@ -88,7 +88,7 @@ pub fn either_way<L: Machine + Drop, R: Machine + Drop>(
 }
 
 /// Decides two machines, and then the same two again, with more grants and in two parts. Answers both verdicts.
-pub fn second_opinion<L: Machine + Drop, R: Machine + Drop>(
+fn second_opinion<L: Machine + Drop, R: Machine + Drop>(
     left: L,
     right: R,
     more: u32,
@@ -106,7 +106,7 @@ pub fn second_opinion<L: Machine + Drop, R: Machine + Drop>(
 }
 
 /// Whether a show is the first of which two machines do not say the same. It is found wherever a bench suffices.
-pub fn is_first_difference<L: Machine + Drop, R: Machine + Drop>(
+fn is_first_difference<L: Machine + Drop, R: Machine + Drop>(
     left: L,
     right: R,
     expected: &[u8],
@@ -125,7 +125,7 @@ pub fn is_first_difference<L: Machine + Drop, R: Machine + Drop>(
 
 /// Finds where two machines first differ, and answers how many joint positions were met, that one the last, and the length of its
 /// first show, which then stands at the front of the buffer.
-pub fn place_of_difference<L: Machine + Drop, R: Machine + Drop>(
+fn place_of_difference<L: Machine + Drop, R: Machine + Drop>(
     left: L,
     right: R,
     buffer: &mut [u8; LONGEST],
@@ -142,7 +142,7 @@ pub fn place_of_difference<L: Machine + Drop, R: Machine + Drop>(
 }
 
 /// Counts the joint positions of two machines after a grant.
-pub fn counted<L: Machine + Drop, R: Machine + Drop>(
+fn counted<L: Machine + Drop, R: Machine + Drop>(
     left: L,
     right: R,
     grant: u32,
@@ -156,7 +156,7 @@ pub fn counted<L: Machine + Drop, R: Machine + Drop>(
 }
 
 /// Grants so often to a bench, each time looks at its tally and asks for the show, and answers the largest number that was told.
-pub fn most_told<L: Machine + Drop, R: Machine + Drop>(
+fn most_told<L: Machine + Drop, R: Machine + Drop>(
     left: L,
     right: R,
     grant: u32,
@@ -179,7 +179,7 @@ pub fn most_told<L: Machine + Drop, R: Machine + Drop>(
 }
 
 /// What two grants came to: how many joint positions they worked, and how many of those recorded wait to be worked.
-pub fn spent<L: Machine + Drop, R: Machine + Drop>(
+fn spent<L: Machine + Drop, R: Machine + Drop>(
     left: L,
     right: R,
     first: u32,
@@ -196,7 +196,7 @@ pub fn spent<L: Machine + Drop, R: Machine + Drop>(
 }
 
 /// What is left of any bench: how many recorded joint positions wait to be worked, and how many places are free.
-pub fn spare<L: Machine, R: Machine>(bench: &Bench<L, R>) -> (Verdict, u16, u16)
+fn spare<L: Machine, R: Machine>(bench: &Bench<L, R>) -> (Verdict, u16, u16)
     ensures room { result.1 + result.2 ≤ 2048 }
     ensures open_waits { result.0 ≡ Open → 0 < result.1 }
 {
@@ -205,7 +205,7 @@ pub fn spare<L: Machine, R: Machine>(bench: &Bench<L, R>) -> (Verdict, u16, u16)
 }
 
 /// Grants to a bench so often, and gives both machines back with the verdict. They are of one kind, so they could be exchanged.
-pub fn given_back<M: Machine>(left: M, right: M, grant: u32, times: u16) -> (Verdict, M, M)
+fn given_back<M: Machine>(left: M, right: M, grant: u32, times: u16) -> (Verdict, M, M)
     ensures { (result.1 ≡ left) × (result.2 ≡ right) }
 {
     let mut bench = Bench::open(left, right);
@@ -218,21 +218,21 @@ pub fn given_back<M: Machine>(left: M, right: M, grant: u32, times: u16) -> (Ver
 }
 
 /// Whether so much is enough for a verdict, whichever machines are compared.
-pub fn is_enough(grant: u32) -> bool
+fn is_enough(grant: u32) -> bool
     ensures { IsTrue result ↔ AtOnce grant }
 {
     decided_in_time(LIMIT, grant)
 }
 
 /// How much is still to be granted to be sure of a verdict, when so much was.
-pub fn still_to_grant(granted: u32) -> u32
+fn still_to_grant(granted: u32) -> u32
     ensures { (more : ℕ) → (result ≤ more) ↔ InAnyCalls (granted + more) }
 {
     whole_runs(LIMIT, granted)
 }
 
 /// Grants, and when a verdict has fallen, grants all that a bench can use once more. Answers verdict and tally of each time.
-pub fn grants_after_verdict<L: Machine + Drop, R: Machine + Drop>(
+fn grants_after_verdict<L: Machine + Drop, R: Machine + Drop>(
     left: L,
     right: R,
     grant: u32,
@@ -254,19 +254,19 @@ pub fn grants_after_verdict<L: Machine + Drop, R: Machine + Drop>(
 
 /// What a verdict answers when it is asked.
 #[derive(Drop)]
-pub struct Replies {
+struct Replies {
     /// Whether it is equal.
-    pub equal: bool,
+    equal: bool,
     /// Whether it is full.
-    pub full: bool,
+    full: bool,
     /// Which side it names.
-    pub side: Option<Side>,
+    side: Option<Side>,
     /// Whether it is unlike.
-    pub unlike: bool,
+    unlike: bool,
 }
 
 /// Decides two machines, and asks the verdict each of its questions.
-pub fn ask_all<L: Machine + Drop, R: Machine + Drop>(left: L, right: R) -> Replies
+fn ask_all<L: Machine + Drop, R: Machine + Drop>(left: L, right: R) -> Replies
     ensures equal { SameCues (L.meaning left) (R.meaning right) →
         (IsTrue result.equal ↔ AreSame (L.meaning left) (R.meaning right)) }
     ensures full { SameCues (L.meaning left) (R.meaning right) →

@@ -12,7 +12,7 @@ use std::io::{Read, Write};
 
 /// How many joint positions of the two books of a sheet are recorded. Where neither book has a rule there is one at most, since it
 /// is the rules that tell joint positions apart.
-pub fn recorded_of(sheet: &[u8]) -> Option<u16>
+fn recorded_of(sheet: &[u8]) -> Option<u16>
     ensures at_most_one_without_rules { IfSome result (AtMostOneWithoutRules sheet.now) }
     ensures rules_hold_alike { IfSome result (λ _. HeldAlike sheet.now) }
 {
@@ -23,7 +23,7 @@ pub fn recorded_of(sheet: &[u8]) -> Option<u16>
 }
 
 /// Whether a sheet's two books are found to be equal. Then the left one allows no show alone.
-pub fn is_found_equal(sheet: &[u8]) -> bool
+fn is_found_equal(sheet: &[u8]) -> bool
     ensures { IsTrue result → NoneByTheLeftAlone sheet.now }
 {
     match compared(sheet) {
@@ -36,7 +36,7 @@ pub fn is_found_equal(sheet: &[u8]) -> bool
 }
 
 /// How many joint positions two machines have that are equal.
-pub fn joints_where_equal<L: Machine + Drop, R: Machine + Drop>(left: L, right: R) -> Option<u16>
+fn joints_where_equal<L: Machine + Drop, R: Machine + Drop>(left: L, right: R) -> Option<u16>
     ensures { (L.Machine.meaning left).steps.cues ≡ (R.Machine.meaning right).steps.cues →
         IfSome result (HaveJoints (L.Machine.meaning left) (R.Machine.meaning right)) }
 {
@@ -49,7 +49,7 @@ pub fn joints_where_equal<L: Machine + Drop, R: Machine + Drop>(left: L, right: 
 
 /// The verdict of two machines, and how many joint positions were recorded and not worked: none where the machines are equal, and some
 /// where a show divides them. Machines with different cue counts have none.
-pub fn left_to_work<L: Machine + Drop, R: Machine + Drop>(left: L, right: R) -> (Verdict, u16)
+fn left_to_work<L: Machine + Drop, R: Machine + Drop>(left: L, right: R) -> (Verdict, u16)
     ensures none_where_equal { (L.Machine.meaning left).steps.cues ≡ (R.Machine.meaning right).steps.cues →
         result.0 ≡ Verdict.Equal → result.1 ≡ 0 }
     ensures some_where_divided { (L.Machine.meaning left).steps.cues ≡ (R.Machine.meaning right).steps.cues →
@@ -63,7 +63,7 @@ pub fn left_to_work<L: Machine + Drop, R: Machine + Drop>(left: L, right: R) -> 
 }
 
 /// Decides two machines into a buffer. Where they have different cue counts, the buffer stays as it was.
-pub fn decided_into<L: Machine + Drop, R: Machine + Drop>(
+fn decided_into<L: Machine + Drop, R: Machine + Drop>(
     left: L,
     right: R,
     buffer: &mut [u8],
@@ -75,7 +75,7 @@ pub fn decided_into<L: Machine + Drop, R: Machine + Drop>(
 }
 
 /// Whether a sheet is told the same twice. It is.
-pub fn told_alike(alloc: Global, sheet: &[u8]) -> Result<bool, AllocError>
+fn told_alike(alloc: Global, sheet: &[u8]) -> Result<bool, AllocError>
     ensures { IfOk result IsTrue }
 {
     let outcome = compared(sheet);
@@ -86,7 +86,7 @@ pub fn told_alike(alloc: Global, sheet: &[u8]) -> Result<bool, AllocError>
 }
 
 /// Whether a text is what is to be printed for a sheet.
-pub fn is_printed_for(alloc: Global, text: &str, sheet: &[u8]) -> Result<bool, AllocError>
+fn is_printed_for(alloc: Global, text: &str, sheet: &[u8]) -> Result<bool, AllocError>
     ensures { IfOk result (λ is. IsTrue is ↔ PrintedFor sheet.now text.now) }
 {
     let outcome = compared(sheet);
@@ -95,14 +95,14 @@ pub fn is_printed_for(alloc: Global, text: &str, sheet: &[u8]) -> Result<bool, A
 }
 
 /// What is printed for a sheet that is too long.
-pub fn printed_when_too_long(alloc: Global, sheet: &[u8]) -> Result<bool, AllocError>
+fn printed_when_too_long(alloc: Global, sheet: &[u8]) -> Result<bool, AllocError>
     ensures { 16384 < length sheet.now → IfOk result IsTrue }
 {
     is_printed_for(alloc, "refused 1 0 reader\n", sheet)
 }
 
 /// Answers a sheet, and says whether reading it failed. Then nothing is written, and at most 16,385 bytes were read.
-pub fn fails_in_reading<R: Read, W: Write>(reader: &mut R, writer: &mut W) -> bool
+fn fails_in_reading<R: Read, W: Write>(reader: &mut R, writer: &mut W) -> bool
     ensures nothing_written { IsTrue result →
         HoldsTheSame (W.contents writer.old) (W.contents writer.new) }
     ensures little_read { IsTrue result →
@@ -115,7 +115,7 @@ pub fn fails_in_reading<R: Read, W: Write>(reader: &mut R, writer: &mut W) -> bo
 }
 
 /// What a program says where a sheet is not answered: which of reading and writing failed.
-pub fn complaint(alloc: Global, error: AnswerError) -> Result<String, AllocError>
+fn complaint(alloc: Global, error: AnswerError) -> Result<String, AllocError>
     ensures says_reading { IfOk result (λ text. (cause : _) → error ≡ Reading cause →
         string_bytes text ≡ codes "compare: the sheet cannot be read") }
     ensures says_writing { IfOk result (λ text. (cause : _) → error ≡ Writing cause →

@@ -11,7 +11,7 @@ use machine::{Machine, Numbered, leads_to};
 use rules::{Rule, Template};
 
 /// Strikes the rule past a draft's last. There is none, and the draft stays as it was.
-pub fn strike_past_the_last(draft: &mut Draft) -> Result<(), DraftRefusal>
+fn strike_past_the_last(draft: &mut Draft) -> Result<(), DraftRefusal>
     ensures refused { IsErrOf result NoSuchRule }
     ensures as_it_was { draft.new ≡ draft.old }
 {
@@ -19,7 +19,7 @@ pub fn strike_past_the_last(draft: &mut Draft) -> Result<(), DraftRefusal>
 }
 
 /// Retunes the rule past a draft's last. There is none, and the draft stays as it was.
-pub fn retune_past_the_last(draft: &mut Draft, n: u8) -> Result<(), DraftRefusal>
+fn retune_past_the_last(draft: &mut Draft, n: u8) -> Result<(), DraftRefusal>
     ensures refused { IsErrOf result NoSuchRule }
     ensures as_it_was { draft.new ≡ draft.old }
 {
@@ -27,7 +27,7 @@ pub fn retune_past_the_last(draft: &mut Draft, n: u8) -> Result<(), DraftRefusal
 }
 
 /// Gives a rule the count 0. No rule takes it, and the draft stays as it was.
-pub fn retune_to_none(draft: &mut Draft, i: u8) -> Result<(), DraftRefusal>
+fn retune_to_none(draft: &mut Draft, i: u8) -> Result<(), DraftRefusal>
     ensures refused { IsErr result }
     ensures as_it_was { draft.new ≡ draft.old }
 {
@@ -35,7 +35,7 @@ pub fn retune_to_none(draft: &mut Draft, i: u8) -> Result<(), DraftRefusal>
 }
 
 /// Adds a rule of template 22. There is none, and the draft stays as it was.
-pub fn add_of_no_template(draft: &mut Draft, a: u8, b: u8, n: u8) -> Result<(), DraftRefusal>
+fn add_of_no_template(draft: &mut Draft, a: u8, b: u8, n: u8) -> Result<(), DraftRefusal>
     ensures refused { IsErrOf result NoSuchTemplate }
     ensures as_it_was { draft.new ≡ draft.old }
 {
@@ -43,7 +43,7 @@ pub fn add_of_no_template(draft: &mut Draft, a: u8, b: u8, n: u8) -> Result<(), 
 }
 
 /// Adds that a show begins with its first cue. For this rule only room can be wanting.
-pub fn add_first_cue(draft: &mut Draft) -> Result<(), DraftRefusal>
+fn add_first_cue(draft: &mut Draft) -> Result<(), DraftRefusal>
     ensures full { OnErr result (IsErrOf result Full × IsFull draft.old) }
     ensures as_it_was { OnErr result (draft.new ≡ draft.old) }
 {
@@ -51,13 +51,7 @@ pub fn add_first_cue(draft: &mut Draft) -> Result<(), DraftRefusal>
 }
 
 /// Adds a rule, and strikes it again. The draft is as it was, whether the rule was taken or not.
-pub fn add_and_strike(
-    draft: &mut Draft,
-    template: u8,
-    a: u8,
-    b: u8,
-    n: u8,
-) -> Result<(), DraftRefusal>
+fn add_and_strike(draft: &mut Draft, template: u8, a: u8, b: u8, n: u8) -> Result<(), DraftRefusal>
     ensures { draft.new ≡ draft.old }
 {
     whole_in_content();
@@ -66,7 +60,7 @@ pub fn add_and_strike(
 }
 
 /// Gives one rule another count. Its template and its cue stay, and so do all other rules; a refusal leaves the draft as it was.
-pub fn retune_one(draft: &mut Draft, i: u8, n: u8) -> Result<(), DraftRefusal>
+fn retune_one(draft: &mut Draft, i: u8, n: u8) -> Result<(), DraftRefusal>
     ensures this { OnOk result (WithCount draft.old draft.new i n) }
     ensures others { OnOk result (OthersStay draft.old draft.new i) }
     ensures as_it_was { OnErr result (draft.new ≡ draft.old) }
@@ -75,7 +69,7 @@ pub fn retune_one(draft: &mut Draft, i: u8, n: u8) -> Result<(), DraftRefusal>
 }
 
 /// Seals a draft and reopens the book. It is the draft that it was.
-pub fn sealed_and_reopened(draft: Draft) -> Draft
+fn sealed_and_reopened(draft: Draft) -> Draft
     ensures { result ≡ draft }
 {
     whole_in_content();
@@ -83,7 +77,7 @@ pub fn sealed_and_reopened(draft: Draft) -> Draft
 }
 
 /// Reopens a book and seals the draft. It is the book that it was.
-pub fn reopened_and_sealed(book: Book) -> Book
+fn reopened_and_sealed(book: Book) -> Book
     ensures { result ≡ book }
 {
     whole_in_content();
@@ -91,7 +85,7 @@ pub fn reopened_and_sealed(book: Book) -> Book
 }
 
 /// Whether a book allows a show, by asking its rules one by one and not by its positions.
-pub fn all_rules_hold(book: &Book, show: &[u8]) -> bool
+fn all_rules_hold(book: &Book, show: &[u8]) -> bool
     ensures { OfItsCues book.now show.now → IsTrue result ↔ IsAllowed book.now show.now }
 {
     for i in 0..book.rules() {
@@ -113,7 +107,7 @@ fn rule_holds(book: &Book, i: u8, show: &[u8]) -> bool
 }
 
 /// Whether two shows lead a book to one position: just then nothing behind both makes one of its rules tell them apart.
-pub fn lead_to_one_position(book: &Book, s: &[u8], t: &[u8]) -> bool
+fn lead_to_one_position(book: &Book, s: &[u8], t: &[u8]) -> bool
     ensures { OfItsCues book.now s.now → OfItsCues book.now t.now
         → IsTrue result ↔ NoneTellsApart book.now s.now t.now }
 {
@@ -122,7 +116,7 @@ pub fn lead_to_one_position(book: &Book, s: &[u8], t: &[u8]) -> bool
 }
 
 /// Whether a rule holds of a show and of every show that begins with it.
-pub fn stays_kept(book: &Book, show: &[u8], i: u8) -> bool
+fn stays_kept(book: &Book, show: &[u8], i: u8) -> bool
     ensures { OfItsCues book.now show.now → IsTrue result ↔ StaysKept book.now show.now i }
 {
     match book.reading(leads_to(book, show), i) {
@@ -132,7 +126,7 @@ pub fn stays_kept(book: &Book, show: &[u8], i: u8) -> bool
 }
 
 /// Whether a rule fails of a show and of every show that begins with it.
-pub fn stays_broken(book: &Book, show: &[u8], i: u8) -> bool
+fn stays_broken(book: &Book, show: &[u8], i: u8) -> bool
     ensures { OfItsCues book.now show.now → IsTrue result ↔ StaysBroken book.now show.now i }
 {
     match book.reading(leads_to(book, show), i) {
@@ -142,7 +136,7 @@ pub fn stays_broken(book: &Book, show: &[u8], i: u8) -> bool
 }
 
 /// Whether a rule lets a cue come next: whether it is not broken for good by it.
-pub fn may_come_next(book: &Book, show: &[u8], i: u8, cue: u8) -> bool
+fn may_come_next(book: &Book, show: &[u8], i: u8, cue: u8) -> bool
     ensures { OfItsCues book.now show.now → IsTrue result ↔ MayComeNext book.now show.now i cue }
 {
     match book.reading(leads_to(book, show), i) {
@@ -152,7 +146,7 @@ pub fn may_come_next(book: &Book, show: &[u8], i: u8, cue: u8) -> bool
 }
 
 /// One more A while a response waits for its B changes nothing that is read of it.
-pub fn another_a_is_idle(book: &Book, show: &[u8], i: u8) -> bool
+fn another_a_is_idle(book: &Book, show: &[u8], i: u8) -> bool
     ensures { OfItsCues book.now show.now → IsTrue result }
 {
     second_a_not_relevant();
@@ -169,7 +163,7 @@ pub fn another_a_is_idle(book: &Book, show: &[u8], i: u8) -> bool
 }
 
 /// A cue is relevant exactly when the reading after it is another.
-pub fn relevance_is_told_by_readings(draft: Draft, position: u64, i: u8, cue: u8) -> bool
+fn relevance_is_told_by_readings(draft: Draft, position: u64, i: u8, cue: u8) -> bool
     ensures { IsTrue result }
 {
     one_reading();
@@ -190,7 +184,7 @@ fn are_same(now: (Value, u32), then: (Value, u32)) -> bool
 }
 
 /// The four bits of a position past those of a sixteenth rule that is not there stay as they are.
-pub fn spare_bits_stay(draft: Draft, position: u64, cue: u8) -> bool
+fn spare_bits_stay(draft: Draft, position: u64, cue: u8) -> bool
     ensures { IsTrue result }
 {
     let book = draft.seal();
@@ -198,7 +192,7 @@ pub fn spare_bits_stay(draft: Draft, position: u64, cue: u8) -> bool
 }
 
 /// A book of one rule closes where its rule does, and one without a rule everywhere.
-pub fn closes_where_its_rule_does(draft: Draft, position: u64) -> bool
+fn closes_where_its_rule_does(draft: Draft, position: u64) -> bool
     ensures { IsTrue result }
 {
     let book = draft.seal();
@@ -212,7 +206,7 @@ pub fn closes_where_its_rule_does(draft: Draft, position: u64) -> bool
 }
 
 /// The first of the example cases, walked: two As with a B behind them keep a response, and a second A without one breaks it.
-pub fn response_is_as_in_the_example() -> bool
+fn response_is_as_in_the_example() -> bool
     ensures { IsTrue result }
 {
     example_cases();

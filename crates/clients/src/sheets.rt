@@ -9,7 +9,7 @@ use sheet::{Fault, Field, ReaderRefusal, Refusal, Sheet, none_is_longer, only_tw
 use std::alloc::{AllocError, Global};
 
 /// Lays out a sheet of one cue and of two books without rules, and reads it back: it is a sheet where the name is in form.
-pub fn one_cue_is_read(alloc: Global, name: &str) -> Result<bool, AllocError>
+fn one_cue_is_read(alloc: Global, name: &str) -> Result<bool, AllocError>
     ensures { NameForm name.now → IfOk result IsTrue }
 {
     let text = format!(in alloc; "cues 1\n{name}\nleft 0\nright 0\n")?;
@@ -17,7 +17,7 @@ pub fn one_cue_is_read(alloc: Global, name: &str) -> Result<bool, AllocError>
 }
 
 /// Reads a sheet. Where it is laid out as that of one cue, it is just that.
-pub fn read_back(sheet: &[u8]) -> Result<Sheet<'_>, Fault>
+fn read_back(sheet: &[u8]) -> Result<Sheet<'_>, Fault>
     ensures accepted { (x : _) → NameForm x → sheet.now ≡ one_cue_text x → IsOk result }
     ensures as_laid_out { (x : _) → NameForm x → sheet.now ≡ one_cue_text x → IfOk result (IsOneCue x) }
 {
@@ -25,7 +25,7 @@ pub fn read_back(sheet: &[u8]) -> Result<Sheet<'_>, Fault>
 }
 
 /// Whether a sheet that is accepted fits a page of 2,329 bytes. It always does.
-pub fn fits_a_page(sheet: &[u8]) -> bool
+fn fits_a_page(sheet: &[u8]) -> bool
     ensures { IsTrue result }
 {
     none_is_longer();
@@ -36,7 +36,7 @@ pub fn fits_a_page(sheet: &[u8]) -> bool
 }
 
 /// The field in which the name of a cue stands, in its line and at its byte.
-pub fn name_field(sheet: &[u8], cue: u8) -> Option<Field<'_>>
+fn name_field(sheet: &[u8], cue: u8) -> Option<Field<'_>>
     ensures stands_in_its_line { IfSome result (λ f. field_line f ≡ cue + 2) }
     ensures stands_at_its_byte { IfSome result (λ f. StandsAt sheet.now (field_at f) (field_text f)) }
 {
@@ -47,7 +47,7 @@ pub fn name_field(sheet: &[u8], cue: u8) -> Option<Field<'_>>
 }
 
 /// Whether a sheet is told to be too long.
-pub fn is_told_too_long(sheet: &[u8]) -> bool
+fn is_told_too_long(sheet: &[u8]) -> bool
     ensures { IsTrue result ↔ (16384 < length sheet.now) }
 {
     match Sheet::read(sheet) {
@@ -57,7 +57,7 @@ pub fn is_told_too_long(sheet: &[u8]) -> bool
 }
 
 /// The number and the line of the fault of a sheet without bytes.
-pub fn fault_of_nothing() -> Option<(u8, u32)>
+fn fault_of_nothing() -> Option<(u8, u32)>
     ensures { result ≡ Some (2, 1) }
 {
     let fault = Sheet::read(&[]).err()?;
@@ -65,7 +65,7 @@ pub fn fault_of_nothing() -> Option<(u8, u32)>
 }
 
 /// The number of the fault, where a draft turns a sheet down.
-pub fn number_by_a_draft(sheet: &[u8]) -> Option<u8>
+fn number_by_a_draft(sheet: &[u8]) -> Option<u8>
     ensures { IfSome result (λ n. (n ≡ 10) ⊎ (n ≡ 11)) }
 {
     only_two_of_a_draft();

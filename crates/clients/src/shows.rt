@@ -6,7 +6,7 @@ use machine::{show_order, shows_stand_in_one_order};
 use std::cmp::Ordering;
 
 /// The earlier of two shows, or the first where they are the same: neither is earlier.
-pub fn earlier_of<'a>(s: &'a [u8], t: &'a [u8]) -> &'a [u8]
+fn earlier_of<'a>(s: &'a [u8], t: &'a [u8]) -> &'a [u8]
     ensures first_is_no_earlier { ¬ Earlier s.now result.now }
     ensures second_is_no_earlier { ¬ Earlier t.now result.now }
 {
@@ -18,7 +18,7 @@ pub fn earlier_of<'a>(s: &'a [u8], t: &'a [u8]) -> &'a [u8]
 }
 
 /// The earliest of three shows: none of them is earlier.
-pub fn earliest_of<'a>(s: &'a [u8], t: &'a [u8], u: &'a [u8]) -> &'a [u8]
+fn earliest_of<'a>(s: &'a [u8], t: &'a [u8], u: &'a [u8]) -> &'a [u8]
     ensures first_is_no_earlier { ¬ Earlier s.now result.now }
     ensures second_is_no_earlier { ¬ Earlier t.now result.now }
     ensures third_is_no_earlier { ¬ Earlier u.now result.now }
@@ -28,7 +28,7 @@ pub fn earliest_of<'a>(s: &'a [u8], t: &'a [u8], u: &'a [u8]) -> &'a [u8]
 }
 
 /// Whether two shows are the same, cue by cue.
-pub fn is_same_show(s: &[u8], t: &[u8]) -> bool
+fn is_same_show(s: &[u8], t: &[u8]) -> bool
     ensures { IsTrue result ↔ (s.now ≡ t.now) }
 {
     shows_stand_in_one_order();
@@ -37,7 +37,7 @@ pub fn is_same_show(s: &[u8], t: &[u8]) -> bool
 
 /// Places two shows with one more cue each, which need not be written out: by what they were, and of one and the same show by
 /// the cues.
-pub fn order_behind(s: &[u8], c: u8, t: &[u8], d: u8) -> Ordering
+fn order_behind(s: &[u8], c: u8, t: &[u8], d: u8) -> Ordering
     ensures { Placed result (s.now ++ c ∷ []) (t.now ++ d ∷ []) }
 {
     shows_stand_in_one_order();

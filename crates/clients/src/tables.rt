@@ -8,14 +8,14 @@ use examples::flight;
 use machine::{FillRefusal, Machine, Table, allows};
 
 /// Replaces a table by what is described, if that is a table, and says whether it did. A refusal leaves the table as it was.
-pub fn replaced(table: &mut Table, states: u8, cues: u8, next: &[u8], closing: u64) -> bool
+fn replaced(table: &mut Table, states: u8, cues: u8, next: &[u8], closing: u64) -> bool
     ensures as_it_was_if_refused { OnFalse result (table.new ≡ table.old) }
 {
     table.fill(states, cues, next, closing).is_ok()
 }
 
 /// Fills two tables with one description. Whatever each held before, they are the same table then; or both stay as they were.
-pub fn filled_alike(
+fn filled_alike(
     one: &mut Table,
     other: &mut Table,
     states: u8,
@@ -33,7 +33,7 @@ pub fn filled_alike(
 }
 
 /// Fills a table, and makes another of the same description: the same table, or none, and the first stays as it was.
-pub fn made_as_filled(
+fn made_as_filled(
     table: &mut Table,
     states: u8,
     cues: u8,
@@ -50,7 +50,7 @@ pub fn made_as_filled(
 }
 
 /// The first fault of a description, if it has one: the counts come before the length, and the length before the names.
-pub fn first_fault(states: u8, cues: u8, next: &[u8], closing: u64) -> Option<FillRefusal>
+fn first_fault(states: u8, cues: u8, next: &[u8], closing: u64) -> Option<FillRefusal>
     ensures states_come_first { IsOutside states 64 → result ≡ Some FillRefusal.StateCount }
     ensures then_cues { IsWithin states 64 → IsOutside cues 32 →
         result ≡ Some FillRefusal.CueCount }
@@ -66,7 +66,7 @@ pub fn first_fault(states: u8, cues: u8, next: &[u8], closing: u64) -> Option<Fi
 }
 
 /// How many next states a table has: one for each of its states and cues.
-pub fn cells(table: &Table) -> usize
+fn cells(table: &Table) -> usize
     ensures one_for_each_state_and_cue { result
         ≡ (description_of table.now).states * (table_meaning table.now).steps.cues }
     ensures at_least_one { 1 ≤ result }
@@ -76,7 +76,7 @@ pub fn cells(table: &Table) -> usize
 }
 
 /// Whether a new table allows a show: it allows none.
-pub fn new_allows(show: &[u8]) -> bool
+fn new_allows(show: &[u8]) -> bool
     ensures { result ≡ false }
 {
     allows(&Table::new(), show)
@@ -84,14 +84,14 @@ pub fn new_allows(show: &[u8]) -> bool
 
 /// Whether a show may close at position 3 of the example of three states in which FLY comes only after LOAD. It is past
 /// the last state, so no show may close there.
-pub fn flight_closes_past_its_states() -> bool
+fn flight_closes_past_its_states() -> bool
     ensures { result ≡ false }
 {
     flight().may_close(3)
 }
 
 /// Where a cue leads from position 3 of that example: nowhere else.
-pub fn flight_leads_past_its_states(cue: u8) -> u64
+fn flight_leads_past_its_states(cue: u8) -> u64
     ensures { result ≡ 3 }
 {
     flight().next(3, cue)

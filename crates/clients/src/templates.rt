@@ -10,14 +10,14 @@ use machine::Numbered;
 use rules::{Arguments, Letter, Rule, Template, words_told_apart};
 
 /// Finds a template again by its number.
-pub fn found_by_number(template: Template) -> Option<Template>
+fn found_by_number(template: Template) -> Option<Template>
     ensures { result ≡ Some template }
 {
     Template::from_number(template.number())
 }
 
 /// Whether two templates have one word: only a template and itself do.
-pub fn have_one_word(t: Template, u: Template) -> bool
+fn have_one_word(t: Template, u: Template) -> bool
     ensures { IsTrue result ↔ (t ≡ u) }
 {
     words_told_apart();
@@ -25,7 +25,7 @@ pub fn have_one_word(t: Template, u: Template) -> bool
 }
 
 /// Makes a rule twice of one description: both are made and say the same, or both are turned down for one reason.
-pub fn made_alike(template: Template, a: u8, b: u8, n: u8) -> bool
+fn made_alike(template: Template, a: u8, b: u8, n: u8) -> bool
     ensures { IsTrue result }
 {
     match (Rule::new(template, a, b, n), Rule::new(template, a, b, n)) {
@@ -38,21 +38,21 @@ pub fn made_alike(template: Template, a: u8, b: u8, n: u8) -> bool
 }
 
 /// Whether it makes a difference to the template how high a count is: some word tells two counts apart.
-pub fn hangs_on_its_count(template: Template) -> bool
+fn hangs_on_its_count(template: Template) -> bool
     ensures { IsTrue result ↔ HangsOnCount template }
 {
     template.arguments() == Arguments::CueAndCount
 }
 
 /// Whether it makes a difference to the template where a B stands: some word tells it from the word without it.
-pub fn hangs_on_b(template: Template) -> bool
+fn hangs_on_b(template: Template) -> bool
     ensures { IsTrue result ↔ HangsOnB template }
 {
     template.arguments() == Arguments::TwoCues
 }
 
 /// Whether a show calls a cue n times, by a rule of existence; none where no rule has such a count.
-pub fn called_at_least(a: u8, n: u8, show: &[u8]) -> Option<bool>
+fn called_at_least(a: u8, n: u8, show: &[u8]) -> Option<bool>
     ensures { IfSome result (λ yes. IsTrue yes ↔ CalledAtLeast n a show.now) }
 {
     let rule = Rule::new(Template::Existence, a, 0, n).ok()?;
@@ -60,7 +60,7 @@ pub fn called_at_least(a: u8, n: u8, show: &[u8]) -> Option<bool>
 }
 
 /// Whether a show ends with a cue, or is empty, by a rule of last.
-pub fn ends_with(a: u8, show: &[u8]) -> Option<bool>
+fn ends_with(a: u8, show: &[u8]) -> Option<bool>
     ensures { IfSome result (λ yes. IsTrue yes ↔ EndsWith a show.now) }
 {
     let rule = Rule::new(Template::Last, a, 0, 0).ok()?;
@@ -68,7 +68,7 @@ pub fn ends_with(a: u8, show: &[u8]) -> Option<bool>
 }
 
 /// Whether each call of one cue is answered by a later one of another, by a rule of response; none where they are one cue.
-pub fn each_answered(a: u8, b: u8, show: &[u8]) -> Option<bool>
+fn each_answered(a: u8, b: u8, show: &[u8]) -> Option<bool>
     ensures answer { IfSome result (λ yes. IsTrue yes ↔ EachAnswered a b show.now) }
     ensures none { IfNone result (a ≡ b) }
 {
@@ -77,7 +77,7 @@ pub fn each_answered(a: u8, b: u8, show: &[u8]) -> Option<bool>
 }
 
 /// The state to which a word leads a rule.
-pub fn state_after(rule: Rule, word: &[Letter]) -> u8
+fn state_after(rule: Rule, word: &[Letter]) -> u8
     ensures { result ≡ word_state (terms rule) word.now }
 {
     word.iter()
@@ -85,7 +85,7 @@ pub fn state_after(rule: Rule, word: &[Letter]) -> u8
 }
 
 /// Whether two words lead a rule to one state: just then nothing behind both tells them apart.
-pub fn lead_to_one_state(rule: Rule, u: &[Letter], v: &[Letter]) -> bool
+fn lead_to_one_state(rule: Rule, u: &[Letter], v: &[Letter]) -> bool
     ensures { IsTrue result ↔ Inseparable (terms rule) u.now v.now }
 {
     let _states = rule.states();
@@ -93,7 +93,7 @@ pub fn lead_to_one_state(rule: Rule, u: &[Letter], v: &[Letter]) -> bool
 }
 
 /// Looks up what is noted in 16 places for the state to which a word leads. No word leads past them.
-pub fn noted_after(rule: Rule, word: &[Letter], notes: &[u8; 16]) -> u8
+fn noted_after(rule: Rule, word: &[Letter], notes: &[u8; 16]) -> u8
     ensures { slice_get notes.now (word_state (terms rule) word.now) ≡ Some result }
 {
     let _states = rule.states();
@@ -101,14 +101,14 @@ pub fn noted_after(rule: Rule, word: &[Letter], notes: &[u8; 16]) -> u8
 }
 
 /// Whether some word leads to a state: whether it is one of the rule's.
-pub fn is_reached(rule: Rule, state: u8) -> bool
+fn is_reached(rule: Rule, state: u8) -> bool
     ensures { IsTrue result ↔ Reached (terms rule) state }
 {
     state < rule.states()
 }
 
 /// Whether a word leads to a later state than a given one: then a word that is no longer leads to that.
-pub fn is_past(rule: Rule, word: &[Letter], state: u8) -> bool
+fn is_past(rule: Rule, word: &[Letter], state: u8) -> bool
     ensures { IfPast (terms rule) word.now state result }
 {
     let _states = rule.states();
@@ -116,7 +116,7 @@ pub fn is_past(rule: Rule, word: &[Letter], state: u8) -> bool
 }
 
 /// A state past a rule's last leads nowhere else, and no show may close there.
-pub fn past_the_last_is_shut(rule: Rule, state: u8, letter: Letter) -> bool
+fn past_the_last_is_shut(rule: Rule, state: u8, letter: Letter) -> bool
     ensures { IsTrue result }
 {
     let states = rule.states();
@@ -124,7 +124,7 @@ pub fn past_the_last_is_shut(rule: Rule, state: u8, letter: Letter) -> bool
 }
 
 /// Where a template takes no B, the letter B leads where other leads.
-pub fn b_leads_as_other(rule: Rule, state: u8) -> bool
+fn b_leads_as_other(rule: Rule, state: u8) -> bool
     ensures { IsTrue result }
 {
     let _states = rule.states();
@@ -134,7 +134,7 @@ pub fn b_leads_as_other(rule: Rule, state: u8) -> bool
 
 /// A way to number the words over a rule's letters: two words have one number exactly when nothing behind both tells them apart,
 /// and numbers are given in the order in which words first reach them.
-pub trait Numbering {
+trait Numbering {
     /// What the rule says.
     ghost of_rule: { Self → Terms };
 
@@ -154,7 +154,7 @@ pub trait Numbering {
 }
 
 /// Whatever way to number words is taken, a word over the rule's letters has the number of the state to which it leads.
-pub fn numbered_as_states<N: Numbering>(numbering: &N, word: &[Letter]) -> bool
+fn numbered_as_states<N: Numbering>(numbering: &N, word: &[Letter]) -> bool
     ensures { OverItsLetters (N.of_rule numbering.now).template word.now → IsTrue result }
 {
     let rule = numbering.rule();

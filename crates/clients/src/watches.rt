@@ -9,7 +9,7 @@ ghost use Rattle.clients.specs.Watches.{FitsAShow, IsDue, AllTaken};
 use machine::{Closed, Machine, Watch, allows};
 
 /// Begins a show and closes it at once.
-pub fn closed_at_once<M: Machine>(machine: M) -> Closed<M>
+fn closed_at_once<M: Machine>(machine: M) -> Closed<M>
     ensures machine_comes_back { result.machine ≡ machine }
     ensures none_taken { result.taken ≡ 0 }
     ensures allowed_as_the_empty_show { result.allowed ≡ allowed (M.Machine.meaning machine) [] }
@@ -20,7 +20,7 @@ pub fn closed_at_once<M: Machine>(machine: M) -> Closed<M>
 
 /// Calls a cue, and says whether it was taken: if it is one of the machine's, and the show has fewer than 10,000. Otherwise the
 /// show is as it was.
-pub fn takes_cue<M: Machine>(watch: &mut Watch<M>, cue: u8) -> bool
+fn takes_cue<M: Machine>(watch: &mut Watch<M>, cue: u8) -> bool
     ensures taken_if_cue_and_room { IsTrue result
         ↔ IsDue M.Machine.meaning (standing watch.old) cue }
     ensures one_more_if_taken { OnTrue result
@@ -33,7 +33,7 @@ pub fn takes_cue<M: Machine>(watch: &mut Watch<M>, cue: u8) -> bool
 /// Plays a show over a machine, cue by cue, and closes it. Beside what is closed stands whether every cue was taken.
 ///
 /// Of a show of the machine's cues, as long as a show may be, every cue is taken, and it is allowed as the machine says.
-pub fn rehearsed<M: Machine>(machine: M, show: &[u8]) -> (Closed<M>, bool)
+fn rehearsed<M: Machine>(machine: M, show: &[u8]) -> (Closed<M>, bool)
     ensures machine_comes_back { result.0.machine ≡ machine }
     ensures every_cue_is_taken { FitsAShow (M.Machine.meaning machine) show.now → result.1 ≡ true }
     ensures all_are_counted { FitsAShow (M.Machine.meaning machine) show.now →
@@ -47,7 +47,7 @@ pub fn rehearsed<M: Machine>(machine: M, show: &[u8]) -> (Closed<M>, bool)
 }
 
 /// Plays the first part of a show, asks the running watch whether it allows the rest, and closes the show there.
-pub fn allows_rest<M: Machine + Drop>(machine: M, first: &[u8], rest: &[u8]) -> bool
+fn allows_rest<M: Machine + Drop>(machine: M, first: &[u8], rest: &[u8]) -> bool
     ensures { FitsAShow (M.Machine.meaning machine) first.now →
         result ≡ allowed (M.Machine.meaning machine) (first.now ++ rest.now) }
 {
@@ -59,7 +59,7 @@ pub fn allows_rest<M: Machine + Drop>(machine: M, first: &[u8], rest: &[u8]) -> 
 }
 
 /// The position to which a show leads, as a watch finds it that hears the cues one by one.
-pub fn place_of<M: Machine + Drop>(machine: M, show: &[u8]) -> u64
+fn place_of<M: Machine + Drop>(machine: M, show: &[u8]) -> u64
     ensures { FitsAShow (M.Machine.meaning machine) show.now →
         result ≡ leads_to (M.Machine.meaning machine).steps show.now }
 {
@@ -71,7 +71,7 @@ pub fn place_of<M: Machine + Drop>(machine: M, show: &[u8]) -> u64
 }
 
 /// All cues of a machine as a set, a bit for each: as many bits as it has cues, from the lowest on.
-pub fn all_cues<M: Machine>(machine: &M) -> u32
+fn all_cues<M: Machine>(machine: &M) -> u32
     ensures { result + 1 ≡ 2 ^ (M.Machine.meaning machine.now).steps.cues }
 {
     low_bits(machine.cues())
@@ -79,14 +79,14 @@ pub fn all_cues<M: Machine>(machine: &M) -> u32
 
 /// Wherever a show leads, of cues or of any other numbers, the position fits into 64 bits. That is so of what a machine means,
 /// whether or not anybody asks it.
-pub fn places_fit<M: Machine>()
+fn places_fit<M: Machine>()
     ensures { (x : M) (s : Show) → leads_to (M.Machine.meaning x).steps s < 2 ^ 64 }
 {}
 
 // As many bits as this, from the lowest on.
 fn low_bits(count: u8) -> u32
-    requires some { 1 ≤ count }
-    requires few { count ≤ 32 }
+    requires at_least_one { 1 ≤ count }
+    requires at_most_32 { count ≤ 32 }
     ensures { result + 1 ≡ 2 ^ count }
 {
     u32::MAX >> (32 - count)
