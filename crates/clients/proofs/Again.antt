@@ -15,7 +15,7 @@ use Rattle.clients.proofs.Told.{Opened, Reached, state_same, state_unlike}
 module _ {L R : Type 0} (lefts : L → Meaning) (rights : R → Meaning) where
   -- A bench that is opened over machines that are x and y.
   pub opened_over : (x x' : L) (y y' : R) (b : Bench L R) → x' ≡ x → y' ≡ y → (b.left ≡ x') × (b.right ≡ y')
-      → (SameCues (lefts x') (rights y') → TellsTheTruth lefts rights b) → ((SameCues (lefts x') (rights y') → ⊥) → StaysUnlike lefts rights b)
+      → (SameCues (lefts x').steps (rights y').steps → TellsTheTruth lefts rights b) → ((SameCues (lefts x').steps (rights y').steps → ⊥) → StaysUnlike lefts rights b)
       → Opened lefts rights x y b
   opened_over x x' y y' b e f is truth stays =
       let here : Opened lefts rights x' y' b = record { machines = is; truth = truth; stays = stays } in

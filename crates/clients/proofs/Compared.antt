@@ -41,21 +41,21 @@ module _ (l r : Meaning) where
   not_both s e (inr (a, b)) = a (rw e b)
 
   -- Shows that lead to one joint position lead both machines to the same positions, and the other way round.
-  pub alike : (s t : Show) → jointly l.steps r.steps s ≡ jointly l.steps r.steps t → LeadAlike l r s t
+  pub alike : (s t : Show) → jointly l.steps r.steps s ≡ jointly l.steps r.steps t → LeadAlike l.steps r.steps s t
   alike s t e = (ap (λ p. p.left) e, ap (λ p. p.right) e)
 
-  pub one_pair : (s t : Show) → LeadAlike l r s t → jointly l.steps r.steps s ≡ jointly l.steps r.steps t
+  pub one_pair : (s t : Show) → LeadAlike l.steps r.steps s t → jointly l.steps r.steps s ≡ jointly l.steps r.steps t
   one_pair s t (e, f) = ap (λ x. record { left = x; right = leads_to r.steps s }) e ∙ ap (λ x. record { left = leads_to l.steps t; right = x }) f
 
   -- So many shows apart lead to so many joint positions.
-  pub many_apart : (k : ℕ) → MoreThan l.steps r.steps k → ManyApart l r (suc k)
+  pub many_apart : (k : ℕ) → MoreThan l.steps r.steps k → ManyApart l.steps r.steps (suc k)
   many_apart k more = record {
     shows = more.shows;
     cued = λ i h. more.playable i (omega arith);
     apart = λ i j h low e. more.apart i j h (omega arith) (one_pair (more.shows i) (more.shows j) e);
   }
 
-  pub more_than : (k : ℕ) → ManyApart l r (suc k) → MoreThan l.steps r.steps k
+  pub more_than : (k : ℕ) → ManyApart l.steps r.steps (suc k) → MoreThan l.steps r.steps k
   more_than k many = record {
     shows = many.shows;
     playable = λ i h. many.cued i (omega arith);
@@ -63,13 +63,13 @@ module _ (l r : Meaning) where
   }
 
   -- The first shows of the first joint positions in rank are the first to lead where they lead.
-  pub leads_back : (k : ℕ) (shows : ℕ → Show) (t : Show) → LeadsToOneOf l.steps r.steps k shows t → LeadsBack l r k shows t
+  pub leads_back : (k : ℕ) (shows : ℕ → Show) (t : Show) → LeadsToOneOf l.steps r.steps k shows t → LeadsBack l.steps r.steps k shows t
   leads_back k shows t (i, h, e, late) = (i, h, alike t (shows i) e, late)
 
-  pub leads_to_one : (k : ℕ) (shows : ℕ → Show) (t : Show) → LeadsBack l r k shows t → LeadsToOneOf l.steps r.steps k shows t
+  pub leads_to_one : (k : ℕ) (shows : ℕ → Show) (t : Show) → LeadsBack l.steps r.steps k shows t → LeadsToOneOf l.steps r.steps k shows t
   leads_to_one k shows t (i, h, e, late) = (i, h, one_pair t (shows i) e, late)
 
-  pub lead_first : (k : ℕ) (shows : ℕ → Show) → FirstInRank l.steps r.steps k shows → LeadFirst l r k shows
+  pub lead_first : (k : ℕ) (shows : ℕ → Show) → FirstInRank l.steps r.steps k shows → LeadFirst l.steps r.steps k shows
   lead_first k shows first = record {
     cued = first.playable;
     rising = first.rising;
@@ -77,7 +77,7 @@ module _ (l r : Meaning) where
     covered = λ t. elim (first.every t) [ inl one ↦ inl (leads_back k shows t one) | inr late ↦ inr late ];
   }
 
-  pub first_in_rank : (k : ℕ) (shows : ℕ → Show) → LeadFirst l r k shows → FirstInRank l.steps r.steps k shows
+  pub first_in_rank : (k : ℕ) (shows : ℕ → Show) → LeadFirst l.steps r.steps k shows → FirstInRank l.steps r.steps k shows
   first_in_rank k shows first = record {
     playable = first.cued;
     rising = first.rising;
@@ -86,13 +86,13 @@ module _ (l r : Meaning) where
   }
 
   -- What equal and full say.
-  pub all_agree : (k : ℕ) → AllEqual l r k → AgreeThroughout l r × (ManyApart l r (suc k) → ⊥)
+  pub all_agree : (k : ℕ) → AllEqual l r k → AgreeThroughout l r × (ManyApart l.steps r.steps (suc k) → ⊥)
   all_agree k (none, most) = (λ s here. agree s (none s here), λ many. most (more_than k many))
 
-  pub all_equal : (k : ℕ) → AgreeThroughout l r × (ManyApart l r (suc k) → ⊥) → AllEqual l r k
+  pub all_equal : (k : ℕ) → AgreeThroughout l r × (ManyApart l.steps r.steps (suc k) → ⊥) → AllEqual l r k
   all_equal k (all, few) = (λ s here d. not_both s (all s here) d, λ more. few (many_apart k more))
 
-  pub agree_at_first : (k : ℕ) → TooMany l r k → ManyApart l r (suc k) × AgreeAtFirst l r k
+  pub agree_at_first : (k : ℕ) → TooMany l r k → ManyApart l.steps r.steps (suc k) × AgreeAtFirst l r k
   agree_at_first k (more, none) = (
     many_apart k more,
     record {
@@ -102,7 +102,7 @@ module _ (l r : Meaning) where
     },
   )
 
-  pub too_many : (k : ℕ) → ManyApart l r (suc k) × AgreeAtFirst l r k → TooMany l r k
+  pub too_many : (k : ℕ) → ManyApart l.steps r.steps (suc k) × AgreeAtFirst l r k → TooMany l r k
   too_many k (many, none) = (
     more_than k many,
     record {

@@ -19,7 +19,7 @@ use Rattle.clients.proofs.Told.{Reached, truly, unlike}
 
 module _ (l r : Meaning) (g : ℕ) (shows : ℕ → Show) (w k : ℕ) (first : FirstInRank l.steps r.steps k shows) where
   -- The last of the shows is the first difference.
-  differs : (v : Verdict) → LastDivides l r LIMIT shows w k v → LastDiffers l r g w k
+  differs : (v : Verdict) → LastDivides l r LIMIT shows w k v → LastDiffers l r w k
   differs v last = record {
     shows = shows;
     first = lead_first l r k shows first;

@@ -9,7 +9,7 @@ pub mod Steady
 pub mod Again
 pub mod Differences
 pub mod Books
-pub mod Spent
+pub mod TwoGrants
 pub mod Blank
 pub mod Counted
 pub mod SheetLemmas

@@ -10,11 +10,11 @@ use Rattle.search.specs.Search.{Search, after, found}
 use Rattle.search.specs.Truth.{AllEqual, TooMany}
 use Rattle.search.specs.Units.{VerdictMeans, SideMeans, SideTold}
 use Rattle.bench.specs.declared.cells.TheConstants.{LIMIT}
-use Rattle.clients.specs.Comparing.{SameCues}
-use Rattle.clients.specs.Granting.{AreSame, AreTooLarge, NamesSide}
+use Rattle.clients.specs.Comparing.{SameCues, AreSame, AreTooLarge}
+use Rattle.clients.specs.Granting.{NamesSide}
 use Rattle.clients.proofs.Compared.{all_agree, all_equal, agree_at_first, too_many, left_first, right_first}
 
-module _ (l r : Meaning) (left : Lawful l.steps) (right : Lawful r.steps) (same : SameCues l r) (v : Verdict) (told : (after l r LIMIT LIMIT).verdict ≡ v) where
+module _ (l r : Meaning) (left : Lawful l.steps) (right : Lawful r.steps) (same : SameCues l.steps r.steps) (v : Verdict) (told : (after l r LIMIT LIMIT).verdict ≡ v) where
   ok : Comparable l.steps r.steps
   ok = record { left = left; right = right; counts = same }
 

@@ -21,8 +21,8 @@ use Rattle.clients.proofs.Compared.{all_agree, all_equal, agree_at_first, too_ma
 
 -- The verdict told, and the answer of show on a buffer that held the first bytes and holds the second.
 pub record Concluded (l r : Meaning) (v : Verdict) (told : Result ℕ ShowRefusal) (before now' : List ℕ) : Type 0 where
-  pub truly : SameCues l r → TrueVerdict l r LIMIT v × ShowTold l r LIMIT v before (Written told now')
-  pub unlike : (SameCues l r → ⊥) → (v ≡ Unlike) × (told ≡ Err NoShow) × (now' ≡ before)
+  pub truly : SameCues l.steps r.steps → TrueVerdict l r LIMIT v × ShowTold l r LIMIT v before (Written told now')
+  pub unlike : (SameCues l.steps r.steps → ⊥) → (v ≡ Unlike) × (told ≡ Err NoShow) × (now' ≡ before)
 
 -- The verdict can be asked for at any time.
 pub asking : {L R : Type 0} (lefts : L → Meaning) (rights : R → Meaning) (here : Bench L R) → Called lefts rights AskVerdict (Told here.state.verdict) here here
@@ -32,8 +32,8 @@ asking lefts rights here = record { answered = refl; state = refl; left = refl; 
 module _ {L R : Type 0} (lefts : L → Meaning) (rights : R → Meaning) (x : L) (y : R) where
   pub record Opened (b : Bench L R) : Type 0 where
     pub machines : (b.left ≡ x) × (b.right ≡ y)
-    pub truth : SameCues (lefts x) (rights y) → TellsTheTruth lefts rights b
-    pub stays : (SameCues (lefts x) (rights y) → ⊥) → StaysUnlike lefts rights b
+    pub truth : SameCues (lefts x).steps (rights y).steps → TellsTheTruth lefts rights b
+    pub stays : (SameCues (lefts x).steps (rights y).steps → ⊥) → StaysUnlike lefts rights b
 
   pub record Reached (g : ℕ) (here : Bench L R) : Type 0 where
     pub bench : Bench L R
@@ -50,26 +50,26 @@ module _ {L R : Type 0} (lefts : L → Meaning) (rights : R → Meaning) (x : L)
     r = rights y
 
     -- Every call is answered truly.
-    pub truly : SameCues l r → (c : Call) (a : Answer) (next : Bench L R) → Called lefts rights c a here next → TrueAnswer l r LIMIT g c a
+    pub truly : SameCues l.steps r.steps → (c : Call) (a : Answer) (next : Bench L R) → Called lefts rights c a here next → TrueAnswer l r LIMIT g c a
     truly same c a next call =
         let (e, f) = so.opened.machines in
         rw (← e, ← f) (((so.opened.truth same).always so.pick so.answers g here so.run).truly c a next call)
 
     -- The state is that of the sum of grants.
-    pub state_same : SameCues l r → here.state ≡ after l r LIMIT g
+    pub state_same : SameCues l.steps r.steps → here.state ≡ after l r LIMIT g
     state_same same =
         let (e, f) = so.opened.machines in
         rw (← e, ← f) ((so.opened.truth same).always so.pick so.answers g here so.run).state
 
     -- The truth is one.
-    pub one : SameCues l r → OneTruth l r LIMIT
+    pub one : SameCues l.steps r.steps → OneTruth l r LIMIT
     one same = let (e, f) = so.opened.machines in rw (← e, ← f) (so.opened.truth same).one
 
     -- Of machines with other cue counts nothing is told.
-    pub unlike : (SameCues l r → ⊥) → (c : Call) (a : Answer) (next : Bench L R) → Called lefts rights c a here next → UnlikeAnswer c a
+    pub unlike : (SameCues l.steps r.steps → ⊥) → (c : Call) (a : Answer) (next : Bench L R) → Called lefts rights c a here next → UnlikeAnswer c a
     unlike differ c a next call = (so.opened.stays differ so.pick so.answers g here so.run).answers c a next call
 
-    pub state_unlike : (SameCues l r → ⊥) → here.state ≡ unlike_search
+    pub state_unlike : (SameCues l.steps r.steps → ⊥) → here.state ≡ unlike_search
     state_unlike differ = (so.opened.stays differ so.pick so.answers g here so.run).state
 
     -- Both machines are as they were.
@@ -84,7 +84,7 @@ module _ {L R : Type 0} (lefts : L → Meaning) (rights : R → Meaning) (x : L)
 
     -- Where enough was granted or the verdict has fallen.
     module _ (fallen : (LIMIT ≤ g) ⊎ (here.state.verdict ≢ Open)) (v : Verdict) (asked : Called lefts rights AskVerdict (Told v) here here) where
-      pub verdict_true : SameCues l r → TrueVerdict l r LIMIT v
+      pub verdict_true : SameCues l.steps r.steps → TrueVerdict l r LIMIT v
       verdict_true same =
           let (answer, when) = truly same AskVerdict (Told v) here asked in
           let e : v ≡ (after l r LIMIT g).verdict = cc in
@@ -93,17 +93,17 @@ module _ {L R : Type 0} (lefts : L → Meaning) (rights : R → Meaning) (x : L)
             | inr shut ↦ elim when.sooner [ inl open' ↦ absurd (shut (cc open')) | inr (t, final) ↦ t ]
           ])
 
-      pub verdict_unlike : (SameCues l r → ⊥) → v ≡ Unlike
+      pub verdict_unlike : (SameCues l.steps r.steps → ⊥) → v ≡ Unlike
       verdict_unlike differ = let told = unlike differ AskVerdict (Told v) here asked in cc
 
       module _ (told : Result ℕ ShowRefusal) (before now' : List ℕ) (shown : Called lefts rights (WriteShow before) (Written told now') here here) where
-        show_true : SameCues l r → ShowTold l r LIMIT v before (Written told now')
+        show_true : SameCues l.steps r.steps → ShowTold l r LIMIT v before (Written told now')
         show_true same =
             let (answer, when) = truly same AskVerdict (Told v) here asked in
             let e : v ≡ (after l r LIMIT g).verdict = cc in
             rw e (truly same (WriteShow before) (Written told now') here shown)
 
-        show_unlike : (SameCues l r → ⊥) → (told ≡ Err NoShow) × (now' ≡ before)
+        show_unlike : (SameCues l.steps r.steps → ⊥) → (told ≡ Err NoShow) × (now' ≡ before)
         show_unlike differ = let answer = unlike differ (WriteShow before) (Written told now') here shown in (cc, cc)
 
         pub concluded : Concluded l r v told before now'
@@ -119,7 +119,7 @@ module _ (l r : Meaning) (v : Verdict) (told : Result ℕ ShowRefusal) (before n
   fallen Unlike t = let (s, first) = t.otherwise (λ e. cc) (λ e. cc) in absurd (elim first.named [ inl a ↦ cc | inr b ↦ cc ])
   fallen w t = (λ e. cc, λ e. cc)
 
-  same_or_not : SameCues l r ⊎ (SameCues l r → ⊥)
+  same_or_not : SameCues l.steps r.steps ⊎ (SameCues l.steps r.steps → ⊥)
   same_or_not = cases_eq l.steps.cues r.steps.cues
 
   pub not_open : v ≢ Open
@@ -138,7 +138,7 @@ module _ (l r : Meaning) (v : Verdict) (told : Result ℕ ShowRefusal) (before n
       let t = (done.truly same).0 in
       (λ e. agree_at_first l r LIMIT (t.full.0 e), λ h. t.full.1 (too_many l r LIMIT h))
 
-  pub unlike_says : UnlikeSays l r v
+  pub unlike_says : UnlikeSays l.steps r.steps v
   unlike_says = (λ e same. (fallen v (done.truly same).0).1 e, λ differ. (done.unlike differ).0)
 
   module _ (room : length before ≡ 2047) where
@@ -146,7 +146,7 @@ module _ (l r : Meaning) (v : Verdict) (told : Result ℕ ShowRefusal) (before n
     abbrev front : Show
     front = take (result_unwrap_or told 0) now'
 
-    named : (w : Verdict) → w ≡ v → (w ≡ Left) ⊎ (w ≡ Right) → SameCues l r → FirstDifference l r w front
+    named : (w : Verdict) → w ≡ v → (w ≡ Left) ⊎ (w ≡ Right) → SameCues l.steps r.steps → FirstDifference l r w front
     named w is side same = elim (done.truly same).1 [
       | inl (s, first, short, shown) ↦ rw ((in_front s told before now' (omega arith) shown).0, is) first
       | inr (a, b, e) ↦ absurd (elim side [ inl e ↦ a (sym is ∙ e) | inr e ↦ b (sym is ∙ e) ])

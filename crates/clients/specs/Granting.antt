@@ -9,28 +9,19 @@ use Rattle.search.specs.declared.states.Verdict.TheVariants.{Open}
 use Rattle.search.specs.Search.{after}
 use Rattle.search.specs.Calls.{Strategy, run}
 use Rattle.bench.specs.declared.cells.TheConstants.{LIMIT}
-use Rattle.clients.specs.Comparing.{SameCues, AgreeThroughout, BenchSuffices, ManyApart, AgreeAtFirst, AllowsFirst}
+use Rattle.clients.specs.Comparing.{SameCues, AreSame, AreTooLarge, AllowsFirst}
 
 -- So much decides any two machines, granted at once.
 abbrev pub AtOnce : ℕ → Type 0
-AtOnce grant = (l r : Meaning) → Lawful l.steps → Lawful r.steps → SameCues l r → (after l r LIMIT grant).verdict ≢ Open
+AtOnce grant = (l r : Meaning) → Lawful l.steps → Lawful r.steps → SameCues l.steps r.steps → (after l r LIMIT grant).verdict ≢ Open
 
 -- So much or more decides any two machines, in whatever calls it is granted.
 abbrev pub InAnyCalls : ℕ → Type 0
-InAnyCalls grant = (l r : Meaning) → Lawful l.steps → Lawful r.steps → SameCues l r → (pick : Strategy) (k : ℕ)
+InAnyCalls grant = (l r : Meaning) → Lawful l.steps → Lawful r.steps → SameCues l.steps r.steps → (pick : Strategy) (k : ℕ)
     → grant ≤ (run l r LIMIT pick k).grants → (run l r LIMIT pick k).state.verdict ≢ Open
 
-module _ (l r : Meaning) where
-  -- The machines are the same for every show, and a bench can tell; they have too many positions for a bench, and are the same at
-  -- the first of them.
-  abbrev pub AreSame : Type 0
-  AreSame = AgreeThroughout l r × BenchSuffices l r
-
-  abbrev pub AreTooLarge : Type 0
-  AreTooLarge = ManyApart l r 2049 × AgreeAtFirst l r 2048
-
-  -- What it says which side is named.
-  abbrev pub NamesSide : Option Side → Type 0
-  NamesSide None = AreSame ⊎ AreTooLarge
-  NamesSide (Some side.Left) = (s : Show) × AllowsFirst l r s
-  NamesSide (Some side.Right) = (s : Show) × AllowsFirst r l s
+-- What it says which side is named.
+abbrev pub NamesSide : Meaning → Meaning → Option Side → Type 0
+NamesSide l r None = AreSame l r ⊎ AreTooLarge l r
+NamesSide l r (Some side.Left) = (s : Show) × AllowsFirst l r s
+NamesSide l r (Some side.Right) = (s : Show) × AllowsFirst r l s

@@ -1,9 +1,10 @@
 //! Uses of a bench.
-ghost use Rattle.std.specs.Prelude.{◌≡◌, ◌≢◌, ℕ, ◌+◌, ◌<◌, ◌≤◌, ◌↔◌, IsTrue, IfSome, take};
+ghost use Rattle.std.specs.Prelude.{◌≡◌, ◌≢◌, ℕ, ◌+◌, ◌<◌, ◌≤◌, ◌↔◌, IsTrue, IfSome, None, take};
 ghost use Rattle.search.specs.declared.states.Verdict.TheVariants.{Open};
 ghost use Rattle.clients.specs.Comparing.{SameCues, NotSameCues, EqualSays, FullSays, UnlikeSays};
 ghost use Rattle.clients.specs.Comparing.{SideSays, WritesFront, DifferFirst, BenchFinds};
-ghost use Rattle.clients.specs.Granting.{AtOnce, InAnyCalls, AreSame, AreTooLarge, NamesSide};
+ghost use Rattle.clients.specs.Comparing.{AreSame, AreTooLarge, NoneToFind};
+ghost use Rattle.clients.specs.Granting.{AtOnce, InAnyCalls, NamesSide};
 ghost use Rattle.clients.specs.Counting.{PlaceFound, CountedAs};
 
 use bench::{Bench, LIMIT, ShowRefusal, Verdict};
@@ -20,11 +21,12 @@ fn patient<L: Machine + Drop, R: Machine + Drop>(
     right: R,
     buffer: &mut [u8; LONGEST],
 ) -> (Verdict, usize)
-    ensures decided { result.0 ≢ Open }
-    ensures equal { EqualSays (L.meaning left) (R.meaning right) result.0 }
-    ensures full { FullSays (L.meaning left) (R.meaning right) result.0 }
-    ensures unlike { UnlikeSays (L.meaning left) (R.meaning right) result.0 }
-    ensures sided { SideSays
+    ensures verdict_has_fallen { result.0 ≢ Open }
+    ensures equal_just_when_same { EqualSays (L.meaning left) (R.meaning right) result.0 }
+    ensures full_just_when_too_large { FullSays (L.meaning left) (R.meaning right) result.0 }
+    ensures unlike_just_when_counts_differ { UnlikeSays
+        (L.meaning left).steps (R.meaning right).steps result.0 }
+    ensures side_allows_the_show_first { SideSays
         (L.meaning left) (R.meaning right) result.0 (take result.1 buffer.new) }
     ensures later_bytes_stay { WritesFront result.1 buffer.old buffer.new }
 {
@@ -88,7 +90,7 @@ fn either_way<L: Machine + Drop, R: Machine + Drop>(
 }
 
 /// Decides two machines, and then the same two again, with more grants and in two parts. Answers both verdicts.
-fn second_opinion<L: Machine + Drop, R: Machine + Drop>(
+fn decided_again<L: Machine + Drop, R: Machine + Drop>(
     left: L,
     right: R,
     more: u32,
@@ -111,8 +113,10 @@ fn is_first_difference<L: Machine + Drop, R: Machine + Drop>(
     right: R,
     expected: &[u8],
 ) -> bool
-    ensures found { IsTrue result → DifferFirst (L.meaning left) (R.meaning right) expected.now }
-    ensures sure { BenchFinds (L.meaning left) (R.meaning right) expected.now → IsTrue result }
+    ensures yes_only_of_the_first { IsTrue result →
+        DifferFirst (L.meaning left) (R.meaning right) expected.now }
+    ensures yes_where_a_bench_finds_it { BenchFinds
+        (L.meaning left) (R.meaning right) expected.now → IsTrue result }
 {
     let mut bench = Bench::open(left, right);
     bench.advance(LIMIT);
@@ -124,13 +128,17 @@ fn is_first_difference<L: Machine + Drop, R: Machine + Drop>(
 }
 
 /// Finds where two machines first differ, and answers how many joint positions were met, that one the last, and the length of its
-/// first show, which then stands at the front of the buffer.
+/// first show, which then stands at the front of the buffer. It answers nothing just where the cue counts differ, the machines are
+/// the same, or they are too large for a bench.
 fn place_of_difference<L: Machine + Drop, R: Machine + Drop>(
     left: L,
     right: R,
     buffer: &mut [u8; LONGEST],
 ) -> Option<(u16, usize)>
-    ensures { IfSome result (PlaceFound (L.meaning left) (R.meaning right) buffer.new) }
+    ensures first_difference_was_met_last { IfSome result
+        (PlaceFound (L.meaning left) (R.meaning right) buffer.new) }
+    ensures none_just_where_none_is_to_find { (result ≡ None) ↔
+        NoneToFind (L.meaning left) (R.meaning right) }
 {
     let mut bench = Bench::open(left, right);
     bench.advance(LIMIT);
@@ -142,7 +150,7 @@ fn place_of_difference<L: Machine + Drop, R: Machine + Drop>(
 }
 
 /// Counts the joint positions of two machines after a grant.
-fn counted<L: Machine + Drop, R: Machine + Drop>(
+fn tally_after<L: Machine + Drop, R: Machine + Drop>(
     left: L,
     right: R,
     grant: u32,
@@ -163,9 +171,10 @@ fn most_told<L: Machine + Drop, R: Machine + Drop>(
     times: u16,
     buffer: &mut [u8],
 ) -> u16
-    ensures none { NotSameCues (L.meaning left) (R.meaning right) → result ≡ 0 }
-    ensures buffer_stays { NotSameCues (L.meaning left) (R.meaning right) →
-        buffer.new ≡ buffer.old }
+    ensures zero_where_counts_differ { NotSameCues (L.meaning left).steps (R.meaning right).steps →
+        result ≡ 0 }
+    ensures buffer_stays_where_counts_differ { NotSameCues
+        (L.meaning left).steps (R.meaning right).steps → buffer.new ≡ buffer.old }
 {
     let mut bench = Bench::open(left, right);
     let mut most = 0;
@@ -179,14 +188,14 @@ fn most_told<L: Machine + Drop, R: Machine + Drop>(
 }
 
 /// What two grants came to: how many joint positions they worked, and how many of those recorded wait to be worked.
-fn spent<L: Machine + Drop, R: Machine + Drop>(
+fn worked_and_waiting<L: Machine + Drop, R: Machine + Drop>(
     left: L,
     right: R,
     first: u32,
     second: u32,
 ) -> (u16, u16)
-    ensures granted { result.0 ≤ first + second }
-    ensures room { result.0 + result.1 ≤ 2048 }
+    ensures worked_at_most_as_granted { result.0 ≤ first + second }
+    ensures recorded_at_most_2048 { result.0 + result.1 ≤ 2048 }
 {
     let mut bench = Bench::open(left, right);
     let worked = bench.advance(first);
@@ -197,8 +206,8 @@ fn spent<L: Machine + Drop, R: Machine + Drop>(
 
 /// What is left of any bench: how many recorded joint positions wait to be worked, and how many places are free.
 fn spare<L: Machine, R: Machine>(bench: &Bench<L, R>) -> (Verdict, u16, u16)
-    ensures room { result.1 + result.2 ≤ 2048 }
-    ensures open_waits { result.0 ≡ Open → 0 < result.1 }
+    ensures waiting_and_free_fit_2048 { result.1 + result.2 ≤ 2048 }
+    ensures one_waits_while_open { result.0 ≡ Open → 0 < result.1 }
 {
     let (worked, recorded) = bench.tally();
     (bench.verdict(), recorded - worked, 2048 - recorded)
@@ -267,13 +276,14 @@ struct Replies {
 
 /// Decides two machines, and asks the verdict each of its questions.
 fn ask_all<L: Machine + Drop, R: Machine + Drop>(left: L, right: R) -> Replies
-    ensures equal { SameCues (L.meaning left) (R.meaning right) →
+    ensures equal_just_when_same { SameCues (L.meaning left).steps (R.meaning right).steps →
         (IsTrue result.equal ↔ AreSame (L.meaning left) (R.meaning right)) }
-    ensures full { SameCues (L.meaning left) (R.meaning right) →
+    ensures full_just_when_too_large { SameCues (L.meaning left).steps (R.meaning right).steps →
         (IsTrue result.full ↔ AreTooLarge (L.meaning left) (R.meaning right)) }
-    ensures sided { SameCues (L.meaning left) (R.meaning right) →
+    ensures side_allows_a_show_first { SameCues (L.meaning left).steps (R.meaning right).steps →
         NamesSide (L.meaning left) (R.meaning right) result.side }
-    ensures unlike { IsTrue result.unlike ↔ NotSameCues (L.meaning left) (R.meaning right) }
+    ensures unlike_just_when_counts_differ { IsTrue result.unlike ↔
+        NotSameCues (L.meaning left).steps (R.meaning right).steps }
 {
     let mut bench = Bench::open(left, right);
     bench.advance(LIMIT);

@@ -21,15 +21,15 @@ returns g c =
     record { machines = c.open-bench.ensures.machines_taken_in; truth = c.open-bench.ensures.tells_the_truth; stays = c.open-bench.ensures.stays_unlike } c.advance.ensures in
     let left = g.met.L.Machine.lawful x in
     let right = g.met.R.Machine.lawful y in
-    let told : SameCues (lefts x) (rights y) → (after (lefts x) (rights y) LIMIT LIMIT).verdict ≡ v =
+    let told : SameCues (lefts x).steps (rights y).steps → (after (lefts x) (rights y) LIMIT LIMIT).verdict ≡ v =
     λ same. let (answer, when) = truly lefts rights x y LIMIT here so same AskVerdict (Told v) here c.verdict-verdict.ensures in cc answer in
-    let none : NotSameCues (lefts x) (rights y) → v ≡ Unlike =
+    let none : NotSameCues (lefts x).steps (rights y).steps → v ≡ Unlike =
     λ differ. let answer = unlike lefts rights x y LIMIT here so differ AskVerdict (Told v) here c.verdict-verdict.ensures in cc answer in
     record {
-      equal = λ same. is_same (lefts x) (rights y) left right same v (told same) c.is_equal.result c.is_equal.ensures.just_when_none_divides;
-      full = λ same. is_too_large (lefts x) (rights y) left right same v (told same) c.is_full.result c.is_full.ensures.just_when_too_many;
-      sided = λ same. names_side (lefts x) (rights y) left right same v (told same) c.side.result c.side.ensures.side_allows_first_difference;
-      unlike = (
+      equal_just_when_same = λ same. is_same (lefts x) (rights y) left right same v (told same) c.is_equal.result c.is_equal.ensures.just_when_none_divides;
+      full_just_when_too_large = λ same. is_too_large (lefts x) (rights y) left right same v (told same) c.is_full.result c.is_full.ensures.just_when_too_many;
+      side_allows_a_show_first = λ same. names_side (lefts x) (rights y) left right same v (told same) c.side.result c.side.ensures.side_allows_first_difference;
+      unlike_just_when_counts_differ = (
         λ yes' same. (c.is_unlike.ensures.just_when_counts_differ (lefts x) (rights y) LIMIT (omega arith) LIMIT (told same)).0 yes' same,
         λ differ. c.is_unlike.ensures.just_for_unlike.1 (none differ),
       );

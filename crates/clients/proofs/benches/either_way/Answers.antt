@@ -32,6 +32,6 @@ returns g c =
     let again = steady lefts rights 1 c.open-singly.result c.loop.counter x y c.loop.singly opened c.loop.invariant in
     let e = one_state lefts rights x y c.args.grant (c.loop.counter * 1) c.advance.new.self c.loop.singly (omega arith) first again in
     let verdict = one_verdict lefts rights c.advance.new.self c.loop.singly e _ _ c.verdict.ensures c.verdict-2.ensures in
-    let tally = one_tally lefts rights c.advance.new.self c.loop.singly e _ _ _ _ c.tally.ensures.called c.tally-2.ensures.called in
+    let tally = one_tally lefts rights c.advance.new.self c.loop.singly e _ _ _ _ c.tally.ensures.answers_and_stays c.tally-2.ensures.answers_and_stays in
     let show = one_show lefts rights c.advance.new.self c.loop.singly e _ _ _ _ _ c.show-length.ensures c.show-length-2.ensures in
     same_findings verdict tally.0 tally.1 show.0 show.1

@@ -5,7 +5,7 @@ use Rattle.bench.specs.declared.cells.TheConstants.{LIMIT}
 use Rattle.clients.proofs.Told.{Opened}
 use Rattle.clients.proofs.Steady.{one_grant}
 use Rattle.clients.proofs.Again.{one_verdict, one_tally}
-use Rattle.clients.proofs.Spent.{twice, reached}
+use Rattle.clients.proofs.TwoGrants.{twice, reached}
 use Rattle.clients.proofs.Fallen.{nothing_changes}
 use Rattle.clients.proofs.benches.grants_after_verdict.Goals as goal
 
@@ -24,11 +24,11 @@ returns g c =
     let there = c.advance-2.new.self in
     let opened : Opened lefts rights x y b = record { machines = c.open-bench.ensures.machines_taken_in; truth = c.open-bench.ensures.tells_the_truth; stays = c.open-bench.ensures.stays_unlike } in
     let first = one_grant lefts rights c.args.grant b _ x y here opened c.advance.ensures in
-    let come = twice lefts rights x y b here there c.args.grant LIMIT _ _ _ _ opened c.advance.ensures c.advance-2.ensures c.tally-tally_then.ensures.called in
-    let second = reached lefts rights x y b here there c.args.grant LIMIT _ _ _ _ opened c.advance.ensures c.advance-2.ensures c.tally-tally_then.ensures.called
+    let come = twice lefts rights x y b here there c.args.grant LIMIT _ _ _ _ opened c.advance.ensures c.advance-2.ensures c.tally-tally_then.ensures.answers_and_stays in
+    let second = reached lefts rights x y b here there c.args.grant LIMIT _ _ _ _ opened c.advance.ensures c.advance-2.ensures c.tally-tally_then.ensures.answers_and_stays
     (0 + c.args.grant + LIMIT) _ there come in
     let shut : here.state.verdict ≢ Open = λ e. let told = c.verdict-verdict.ensures.answered in let closed = c.if-is_open.false in let is = c.is_open.ensures.just_for_open.1 (cc (told, e)) in cc (closed, is) in
     let e = nothing_changes lefts rights x y c.args.grant (0 + c.args.grant + LIMIT) here there first second shut (omega arith) in
     let verdict = one_verdict lefts rights here there e _ _ c.verdict-verdict.ensures c.verdict-verdict_then.ensures in
-    let tally = one_tally lefts rights here there e _ _ _ _ c.tally-tally.ensures.called c.tally-tally_then.ensures.called in
+    let tally = one_tally lefts rights here there e _ _ _ _ c.tally-tally.ensures.answers_and_stays c.tally-tally_then.ensures.answers_and_stays in
     same_pairs verdict tally.0 tally.1

@@ -18,15 +18,15 @@ returns-in-Ok g c =
     let (same, first) = found_first _ _ _ _ _ _ done refl c.in-Ok.length c.in-Ok.is in
     let alike = slice_eq-Decides Decides-eqb (take c.in-Ok.length c.show.new.buffer) c.args.expected.now c.eq.result c.eq.ensures in
     record {
-      found = λ yes'. rw (alike.0 yes') at (differ_first _ _ _ _ first);
-      sure = λ found.
+      yes_only_of_the_first = λ yes'. rw (alike.0 yes') at (differ_first _ _ _ _ first);
+      yes_where_a_bench_finds_it = λ found.
           let (long, front) = finds _ _ _ _ _ _ done refl (one lefts rights c.args.left c.args.right LIMIT c.advance.new.self so same) c.args.expected.now found in
           let e : c.in-Ok.length ≡ length c.args.expected.now = cc (long, c.in-Ok.is) in
           alike.1 (ap (λ n. take n c.show.new.buffer) e ∙ front);
     }
 
-pub returns-clause-sure : goal.returns-clause-sure
-returns-clause-sure g c = λ found.
+pub returns-clause-yes_where_a_bench_finds_it : goal.returns-clause-yes_where_a_bench_finds_it
+returns-clause-yes_where_a_bench_finds_it g c = λ found.
     let lefts = g.L.Machine.meaning in
     let rights = g.R.Machine.meaning in
     let so = one_grant lefts rights LIMIT c.open-bench.result _ c.args.left c.args.right c.advance.new.self

@@ -8,4 +8,4 @@ abbrev pub invariant-loop : goal.invariant-loop
 invariant-loop g l =
     let lefts = g.L.Machine.meaning in
     let rights = g.R.Machine.meaning in
-    (SameCues (lefts l.fn.left) (rights l.fn.right) → ⊥) → (l.most ≡ 0) × Rounds lefts rights l.initial.bench l.grant l.fn.buffer l.buffer l.bench
+    (SameCues (lefts l.fn.left).steps (rights l.fn.right).steps → ⊥) → (l.most ≡ 0) × Rounds lefts rights l.initial.bench l.grant l.fn.buffer l.buffer l.bench

@@ -32,10 +32,10 @@ returns g c =
     in
     let length = c.unwrap_or-length.ensures in
     record {
-      decided = not_open _ _ _ _ _ _ done;
-      equal = equal_says _ _ _ _ _ _ done;
-      full = full_says _ _ _ _ _ _ done;
-      unlike = unlike_says _ _ _ _ _ _ done;
-      sided = rw length (side_says _ _ _ _ _ _ done (Prim.search rules));
+      verdict_has_fallen = not_open _ _ _ _ _ _ done;
+      equal_just_when_same = equal_says _ _ _ _ _ _ done;
+      full_just_when_too_large = full_says _ _ _ _ _ _ done;
+      unlike_just_when_counts_differ = unlike_says _ _ _ _ _ _ done;
+      side_allows_the_show_first = rw length (side_says _ _ _ _ _ _ done (Prim.search rules));
       later_bytes_stay = rw length (writes_front _ _ _ _ _ _ done (Prim.search rules));
     }

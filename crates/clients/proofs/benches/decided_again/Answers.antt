@@ -6,7 +6,7 @@ use Rattle.clients.proofs.Handling.{begins, goes_on}
 use Rattle.clients.proofs.Told.{kept, one, verdict_true, verdict_unlike}
 use Rattle.clients.proofs.Steady.{one_grant}
 use Rattle.clients.proofs.Again.{opened_over, reached_by}
-use Rattle.clients.proofs.benches.second_opinion.Goals as goal
+use Rattle.clients.proofs.benches.decided_again.Goals as goal
 
 pub returns : goal.returns
 returns g c =
