@@ -1,14 +1,15 @@
 //! Uses of tables.
-ghost use Rattle.std.specs.Prelude.{◌≡◌, ◌≢◌, ◌*◌, ◌≤◌, Some, None, false, length, IfSome, IfNone};
+ghost use Rattle.std.specs.Prelude.{◌≡◌, ◌≢◌, ◌*◌, ◌≤◌, ◌↔◌, Some, None, false, length, IsTrue, IfSome, IfNone};
 ghost use Rattle.std.specs.Bool.{OnTrue, OnFalse};
 ghost use Rattle.machine.specs.Table.{table_meaning, description_of};
-ghost use Rattle.clients.specs.Tables.{IsOutside, IsWithin, NamesBeyond};
+ghost use Rattle.clients.specs.Tables.{IsOutside, IsWithin, NamesBeyond, IsATable};
 
 use examples::flight;
 use machine::{FillRefusal, Machine, Table, allows};
 
 /// Replaces a table by what is described, if that is a table, and says whether it did. A refusal leaves the table as it was.
 fn replaced(table: &mut Table, states: u8, cues: u8, next: &[u8], closing: u64) -> bool
+    ensures yes_if_right { IsTrue result ↔ IsATable states cues next.now closing }
     ensures as_it_was_if_refused { OnFalse result (table.new ≡ table.old) }
 {
     table.fill(states, cues, next, closing).is_ok()
@@ -66,7 +67,7 @@ fn first_fault(states: u8, cues: u8, next: &[u8], closing: u64) -> Option<FillRe
 }
 
 /// How many next states a table has: one for each of its states and cues.
-fn cells(table: &Table) -> usize
+fn next_state_count(table: &Table) -> usize
     ensures one_for_each_state_and_cue { result
         ≡ (description_of table.now).states * (table_meaning table.now).steps.cues }
     ensures at_least_one { 1 ≤ result }
