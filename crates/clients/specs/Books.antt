@@ -40,17 +40,19 @@ IsAllowed b s = Allows (book_meaning b) s
 abbrev pub NoneTellsApart : Book → Show → Show → Type 0
 NoneTellsApart b s t = (i : ℕ) (r : Terms) → RuleIs (book_content b) i r → Inseparable r (word_of r s) (word_of r t)
 
--- There is a rule i, and it holds of every show that begins with this one; or of none.
+-- There is a rule i, and it holds of every show that begins with this one.
 abbrev pub StaysKept : Book → Show → ℕ → Type 0
 StaysKept b s i = (r : Terms) × RuleIs (book_content b) i r × ((v : Show) → OfItsCues b v → HoldsOf r (s ++ v))
 
+-- There is a rule i, and it holds of no show that begins with this one.
 abbrev pub StaysBroken : Book → Show → ℕ → Type 0
 StaysBroken b s i = (r : Terms) × RuleIs (book_content b) i r × ((v : Show) → OfItsCues b v → HoldsOf r (s ++ v) → ⊥)
 
--- There is a rule i, and behind this show and the cue it does not fail of every show.
+-- The number is a cue of the book, and not every show that begins with this show and that cue breaks the rule.
 abbrev pub NotBroken : Terms → Book → Show → ℕ → Type 0
 NotBroken r b s q = (q < (book_content b).cues) × (((v : Show) → OfItsCues b v → HoldsOf r (s ++ q ∷ v) → ⊥) → ⊥)
 
+-- There is a rule i, and it is not broken for good when this cue comes next.
 abbrev pub MayComeNext : Book → Show → ℕ → ℕ → Type 0
 MayComeNext b s i q = (r : Terms) × RuleIs (book_content b) i r × NotBroken r b s q
 

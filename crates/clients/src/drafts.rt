@@ -12,7 +12,7 @@ use rules::{Rule, Template};
 
 /// Strikes the rule past a draft's last. There is none, and the draft stays as it was.
 fn strike_past_the_last(draft: &mut Draft) -> Result<(), DraftRefusal>
-    ensures refused { IsErrOf result NoSuchRule }
+    ensures there_is_no_such_rule { IsErrOf result NoSuchRule }
     ensures as_it_was { draft.new ≡ draft.old }
 {
     draft.strike(draft.rules())
@@ -20,7 +20,7 @@ fn strike_past_the_last(draft: &mut Draft) -> Result<(), DraftRefusal>
 
 /// Retunes the rule past a draft's last. There is none, and the draft stays as it was.
 fn retune_past_the_last(draft: &mut Draft, n: u8) -> Result<(), DraftRefusal>
-    ensures refused { IsErrOf result NoSuchRule }
+    ensures there_is_no_such_rule { IsErrOf result NoSuchRule }
     ensures as_it_was { draft.new ≡ draft.old }
 {
     draft.retune(draft.rules(), n)
@@ -28,7 +28,7 @@ fn retune_past_the_last(draft: &mut Draft, n: u8) -> Result<(), DraftRefusal>
 
 /// Gives a rule the count 0. No rule takes it, and the draft stays as it was.
 fn retune_to_none(draft: &mut Draft, i: u8) -> Result<(), DraftRefusal>
-    ensures refused { IsErr result }
+    ensures no_rule_takes_it { IsErr result }
     ensures as_it_was { draft.new ≡ draft.old }
 {
     draft.retune(i, 0)
@@ -36,7 +36,7 @@ fn retune_to_none(draft: &mut Draft, i: u8) -> Result<(), DraftRefusal>
 
 /// Adds a rule of template 22. There is none, and the draft stays as it was.
 fn add_of_no_template(draft: &mut Draft, a: u8, b: u8, n: u8) -> Result<(), DraftRefusal>
-    ensures refused { IsErrOf result NoSuchTemplate }
+    ensures there_is_no_such_template { IsErrOf result NoSuchTemplate }
     ensures as_it_was { draft.new ≡ draft.old }
 {
     draft.add(22, a, b, n)
@@ -44,7 +44,7 @@ fn add_of_no_template(draft: &mut Draft, a: u8, b: u8, n: u8) -> Result<(), Draf
 
 /// Adds that a show begins with its first cue. For this rule only room can be wanting.
 fn add_first_cue(draft: &mut Draft) -> Result<(), DraftRefusal>
-    ensures full { OnErr result (IsErrOf result Full × IsFull draft.old) }
+    ensures only_room_can_be_wanting { OnErr result (IsErrOf result Full × IsFull draft.old) }
     ensures as_it_was { OnErr result (draft.new ≡ draft.old) }
 {
     draft.add(Template::Init.number(), 0, 0, 0)
@@ -61,8 +61,8 @@ fn add_and_strike(draft: &mut Draft, template: u8, a: u8, b: u8, n: u8) -> Resul
 
 /// Gives one rule another count. Its template and its cue stay, and so do all other rules; a refusal leaves the draft as it was.
 fn retune_one(draft: &mut Draft, i: u8, n: u8) -> Result<(), DraftRefusal>
-    ensures this { OnOk result (WithCount draft.old draft.new i n) }
-    ensures others { OnOk result (OthersStay draft.old draft.new i) }
+    ensures has_the_count { OnOk result (WithCount draft.old draft.new i n) }
+    ensures others_stay { OnOk result (OthersStay draft.old draft.new i) }
     ensures as_it_was { OnErr result (draft.new ≡ draft.old) }
 {
     draft.retune(i, n)

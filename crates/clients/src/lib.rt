@@ -11,4 +11,5 @@ mod sheets;
 mod shows;
 mod tables;
 mod templates;
+mod theorems;
 mod watches;

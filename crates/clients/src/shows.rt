@@ -35,8 +35,8 @@ fn is_same_show(s: &[u8], t: &[u8]) -> bool
     show_order(s, t) == Ordering::Equal
 }
 
-/// Places two shows with one more cue each, which need not be written out: by what they were, and of one and the same show by
-/// the cues.
+/// Places two shows in order, each followed by one more cue, without writing either out: the shows decide, and where both are
+/// the same show, the cues do.
 fn order_behind(s: &[u8], c: u8, t: &[u8], d: u8) -> Ordering
     ensures { Placed result (s.now ++ c ∷ []) (t.now ++ d ∷ []) }
 {

@@ -51,7 +51,7 @@ fn hangs_on_b(template: Template) -> bool
     template.arguments() == Arguments::TwoCues
 }
 
-/// Whether a show calls a cue n times, by a rule of existence; none where no rule has such a count.
+/// Whether a show calls a cue n times or more, by a rule of existence; none where no rule has such a count.
 fn called_at_least(a: u8, n: u8, show: &[u8]) -> Option<bool>
     ensures { IfSome result (λ yes. IsTrue yes ↔ CalledAtLeast n a show.now) }
 {
@@ -69,8 +69,8 @@ fn ends_with(a: u8, show: &[u8]) -> Option<bool>
 
 /// Whether each call of one cue is answered by a later one of another, by a rule of response; none where they are one cue.
 fn each_answered(a: u8, b: u8, show: &[u8]) -> Option<bool>
-    ensures answer { IfSome result (λ yes. IsTrue yes ↔ EachAnswered a b show.now) }
-    ensures none { IfNone result (a ≡ b) }
+    ensures yes_if_each_is_answered { IfSome result (λ yes. IsTrue yes ↔ EachAnswered a b show.now) }
+    ensures none_only_for_one_cue { IfNone result (a ≡ b) }
 {
     let rule = Rule::new(Template::Response, a, b, 0).ok()?;
     Some(rule.holds(show))

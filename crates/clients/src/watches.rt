@@ -1,7 +1,6 @@
 //! Uses of watches, and of what any machine says of a show.
-ghost use Rattle.std.specs.Prelude.{◌≡◌, ◌↔◌, ◌<◌, ◌≤◌, ◌^◌, ◌+◌, [], ◌++◌, IsTrue, length, true};
+ghost use Rattle.std.specs.Prelude.{◌≡◌, ◌↔◌, ◌≤◌, ◌^◌, ◌+◌, [], ◌++◌, IsTrue, length, true};
 ghost use Rattle.std.specs.Bool.{OnTrue, OnFalse};
-ghost use Rattle.machine.specs.Show.{Show};
 ghost use Rattle.machine.specs.Meaning.{allowed, leads_to};
 ghost use Rattle.machine.specs.Watch.{standing, after_cues};
 ghost use Rattle.clients.specs.Watches.{FitsAShow, IsDue, AllTaken};
@@ -35,10 +34,10 @@ fn takes_cue<M: Machine>(watch: &mut Watch<M>, cue: u8) -> bool
 /// Of a show of the machine's cues, as long as a show may be, every cue is taken, and it is allowed as the machine says.
 fn rehearsed<M: Machine>(machine: M, show: &[u8]) -> (Closed<M>, bool)
     ensures machine_comes_back { result.0.machine ≡ machine }
-    ensures every_cue_is_taken { FitsAShow (M.Machine.meaning machine) show.now → result.1 ≡ true }
-    ensures all_are_counted { FitsAShow (M.Machine.meaning machine) show.now →
+    ensures every_cue_is_taken { FitsAShow (M.Machine.meaning machine).steps show.now → result.1 ≡ true }
+    ensures all_are_counted { FitsAShow (M.Machine.meaning machine).steps show.now →
         result.0.taken ≡ length show.now }
-    ensures allowed_as_the_show { FitsAShow (M.Machine.meaning machine) show.now →
+    ensures allowed_as_the_show { FitsAShow (M.Machine.meaning machine).steps show.now →
         result.0.allowed ≡ allowed (M.Machine.meaning machine) show.now }
 {
     let (mut watch, slip) = Watch::begin(machine);
@@ -48,7 +47,7 @@ fn rehearsed<M: Machine>(machine: M, show: &[u8]) -> (Closed<M>, bool)
 
 /// Plays the first part of a show, asks the running watch whether it allows the rest, and closes the show there.
 fn allows_rest<M: Machine + Drop>(machine: M, first: &[u8], rest: &[u8]) -> bool
-    ensures { FitsAShow (M.Machine.meaning machine) first.now →
+    ensures { FitsAShow (M.Machine.meaning machine).steps first.now →
         result ≡ allowed (M.Machine.meaning machine) (first.now ++ rest.now) }
 {
     let (mut watch, slip) = Watch::begin(machine);
@@ -59,15 +58,15 @@ fn allows_rest<M: Machine + Drop>(machine: M, first: &[u8], rest: &[u8]) -> bool
 }
 
 /// The position to which a show leads, as a watch finds it that hears the cues one by one.
-fn place_of<M: Machine + Drop>(machine: M, show: &[u8]) -> u64
-    ensures { FitsAShow (M.Machine.meaning machine) show.now →
+fn position_by_watch<M: Machine + Drop>(machine: M, show: &[u8]) -> u64
+    ensures { FitsAShow (M.Machine.meaning machine).steps show.now →
         result ≡ leads_to (M.Machine.meaning machine).steps show.now }
 {
     let (mut watch, slip) = Watch::begin(machine);
     let _ = hears(&mut watch, show);
-    let place = watch.start();
+    let position = watch.start();
     let _ = watch.close(slip);
-    place
+    position
 }
 
 /// All cues of a machine as a set, a bit for each: as many bits as it has cues, from the lowest on.
@@ -76,12 +75,6 @@ fn all_cues<M: Machine>(machine: &M) -> u32
 {
     low_bits(machine.cues())
 }
-
-/// Wherever a show leads, of cues or of any other numbers, the position fits into 64 bits. That is so of what a machine means,
-/// whether or not anybody asks it.
-fn places_fit<M: Machine>()
-    ensures { (x : M) (s : Show) → leads_to (M.Machine.meaning x).steps s < 2 ^ 64 }
-{}
 
 // As many bits as this, from the lowest on.
 fn low_bits(count: u8) -> u32

@@ -1,5 +1,5 @@
 use Rattle.clients.proofs.Below.{led_below}
-use Rattle.clients.proofs.watches.places_fit.Goals as goal
+use Rattle.clients.proofs.theorems.positions_fit.Goals as goal
 
 pub returns : goal.returns
 returns g c = λ x s.
