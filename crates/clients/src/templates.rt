@@ -1,9 +1,10 @@
 //! Uses of rules and their templates.
-ghost use Rattle.std.specs.Prelude.{ℕ, ◌≡◌, ◌<◌, ◌≤◌, ◌↔◌, Some, slice_get, IsTrue, IfSome, IfNone};
+ghost use Rattle.std.specs.Prelude.{ℕ, ◌≡◌, ◌<◌, ◌≤◌, ◌↔◌, Some, slice_get, IsTrue, IsSome, IfSome, IfNone};
 ghost use Rattle.rules.specs.Rule.{terms};
 ghost use Rattle.rules.specs.Rule.{Terms};
 ghost use Rattle.rules.specs.States.{OverItsLetters, Numbers};
 ghost use Rattle.rules.specs.Word.{Word};
+ghost use Rattle.clients.specs.Tables.{IsOutside};
 ghost use Rattle.clients.specs.Rules.{HangsOnCount, HangsOnB, CalledAtLeast, EndsWith, EachAnswered, word_state, Inseparable, Reached, IfPast};
 
 use machine::Numbered;
@@ -53,15 +54,17 @@ fn hangs_on_b(template: Template) -> bool
 
 /// Whether a show calls a cue n times or more, by a rule of existence; none where no rule has such a count.
 fn called_at_least(a: u8, n: u8, show: &[u8]) -> Option<bool>
-    ensures { IfSome result (λ yes. IsTrue yes ↔ CalledAtLeast n a show.now) }
+    ensures yes_if_called_so_often { IfSome result (λ yes. IsTrue yes ↔ CalledAtLeast n a show.now) }
+    ensures none_only_outside_its_limits { IfNone result (IsOutside n 14) }
 {
     let rule = Rule::new(Template::Existence, a, 0, n).ok()?;
     Some(rule.holds(show))
 }
 
-/// Whether a show ends with a cue, or is empty, by a rule of last.
+/// Whether a show ends with a cue, or is empty, by a rule of last, which there is for every cue.
 fn ends_with(a: u8, show: &[u8]) -> Option<bool>
-    ensures { IfSome result (λ yes. IsTrue yes ↔ EndsWith a show.now) }
+    ensures yes_if_it_ends_so { IfSome result (λ yes. IsTrue yes ↔ EndsWith a show.now) }
+    ensures always_answers { IsSome result }
 {
     let rule = Rule::new(Template::Last, a, 0, 0).ok()?;
     Some(rule.holds(show))
@@ -141,16 +144,30 @@ trait Numbering {
     /// The number of a word.
     ghost number_of: { Self → Word → ℕ };
 
-    /// The rule whose words are numbered.
+    /// The rule whose words are numbered, as its states are.
     fn rule(&self) -> Rule
-        ensures { terms result ≡ of_rule self.now };
+        ensures says_this { terms result ≡ of_rule self.now }
+        ensures numbered_by_first_reach { Numbers (of_rule self.now).template (of_rule self.now).n (number_of self.now) };
 
     /// The number of a word.
     fn number(&self, word: &[Letter]) -> u8
         ensures { result ≡ number_of self.now word.now };
+}
 
-    /// Words are numbered as a rule's states are.
-    ghost by_first_reach: { (x : Self) → Numbers (of_rule x).template (of_rule x).n (number_of x) };
+// A rule numbers words itself: each has the number of the state to which it leads.
+impl Numbering for Rule {
+    ghost of_rule = { terms };
+
+    ghost number_of = { λ rule. word_state (terms rule) };
+
+    fn rule(&self) -> Rule {
+        let _states = self.states();
+        *self
+    }
+
+    fn number(&self, word: &[Letter]) -> u8 {
+        state_after(*self, word)
+    }
 }
 
 /// Whatever way to number words is taken, a word over the rule's letters has the number of the state to which it leads.
