@@ -2,12 +2,14 @@
 
 #![tactic(auto)]
 
-ghost use Rattle.std.specs.Prelude.{Some};
+ghost use Rattle.std.specs.Prelude.{IfErr, OnOk, Some};
 ghost use Rattle.anyhow.specs.Error.{HasMessage};
-ghost use Rattle.comparison.specs.Answering.{answer_words};
+ghost use Rattle.comparison.specs.Answering.{Answers, ReadsEnough, answer_words};
+ghost use Rattle.compare.specs.Failing.{FailsAsTold};
 
 use comparison::{AnswerError, answer};
 use std::io;
+use std::io::{Read, Write};
 
 #[cfg(test)]
 mod tests;
@@ -19,6 +21,19 @@ fn told(error: AnswerError) -> anyhow::Error
     anyhow::Error::from(error.cause()).context(error)
 }
 
+// Answers the sheet that there is to read. A failure is told by which of reading and writing it was.
+fn run<R: Read, W: Write>(reader: &mut R, writer: &mut W) -> anyhow::Result<()>
+    ensures reads_enough { OnOk result
+        (ReadsEnough (R.remaining reader.old) (R.remaining reader.new)) }
+    ensures writes_the_answer { OnOk result
+        (Answers (R.remaining reader.old) (W.contents writer.old) (W.contents writer.new)) }
+    ensures fails_as_told { IfErr result
+        (FailsAsTold (R.remaining reader.old) (R.remaining reader.new)
+        (W.contents writer.old) (W.contents writer.new)) }
+{
+    answer(reader, writer).map_err(told)
+}
+
 fn main(rt: HostRuntime) -> anyhow::Result<()> {
-    answer(&mut rt.reader(), &mut io::writer(&rt)).map_err(told)
+    run(&mut rt.reader(), &mut io::writer(&rt))
 }
