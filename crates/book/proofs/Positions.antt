@@ -40,7 +40,7 @@ module _ (cues : ℕ) (h : Held) where
   states_are : (i : ℕ) (r : Terms) → RuleAt content i r → StatesAre r.template r.n
   states_are i r there = let (x, e) = rule_of h i r there in rw (sym e) (rule_states x)
 
-  pub one_position : OnePosition m content
+  pub one_position : OnePosition m.steps content
   one_position s t here also = (apart, one)
     where
       apart : leads_to m.steps s ≡ leads_to m.steps t → NotToldApart content s t

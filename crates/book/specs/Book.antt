@@ -2,7 +2,7 @@
 -- Assumes nothing.
 use Rattle.std.specs.Prelude.{◌≡◌, ℕ, ◌+◌, ◌*◌, ◌/◌, ◌%◌, ◌^◌, ◌<◌, ◌≤◌, Bool, true, ◌&&◌, ◌↔◌, List, [], ◌∷◌, length, nat_lt, if◌then◌else◌, IsTrue}
 use Rattle.machine.specs.Show.{Show, Cued}
-use Rattle.machine.specs.Meaning.{Meaning, leads_to, Allows}
+use Rattle.machine.specs.Meaning.{Stepping, Meaning, leads_to, Allows}
 use Rattle.rules.specs.Rule.{Terms, letter_of, step_of, closes_at, word_of, HoldsOf}
 use Rattle.rules.specs.States.{Undivided}
 use Rattle.book.specs.declared.books.Book.{Book}
@@ -67,5 +67,5 @@ abbrev pub NotToldApart : Content → Show → Show → Type 0
 NotToldApart c s t = (i : ℕ) (r : Terms) → RuleAt c i r → Undivided r.template r.n (word_of r s) (word_of r t)
 
 -- The theorem of positions: two shows of the book's cues lead to one position exactly when no rule tells them apart.
-abbrev pub OnePosition : Meaning → Content → Type 0
-OnePosition m c = (s t : Show) → Cued c.cues s → Cued c.cues t → (leads_to m.steps s ≡ leads_to m.steps t) ↔ NotToldApart c s t
+abbrev pub OnePosition : Stepping → Content → Type 0
+OnePosition m c = (s t : Show) → Cued c.cues s → Cued c.cues t → (leads_to m s ≡ leads_to m t) ↔ NotToldApart c s t

@@ -12,5 +12,8 @@ mod values;
 
 pub use books::Book;
 pub use drafts::{Draft, DraftRefusal};
-pub use theorems::{example_cases, one_reading, second_a_not_relevant, whole_in_content};
+pub use theorems::{
+    books_allow_just_what_holds, example_cases, one_reading, positions_apart_just_by_rules,
+    second_a_not_relevant, whole_in_content,
+};
 pub use values::{ReadingRefusal, Value};

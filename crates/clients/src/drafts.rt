@@ -4,8 +4,8 @@ ghost use Rattle.book.specs.declared.drafts.DraftRefusal.TheVariants.{NoSuchTemp
 ghost use Rattle.clients.specs.Books.{IsFull, WithCount, OthersStay, OfItsCues, IsAllowed, NoneTellsApart, StaysKept, StaysBroken, MayComeNext, RuleHolds};
 
 use book::{
-    Book, Draft, DraftRefusal, Value, example_cases, one_reading, second_a_not_relevant,
-    whole_in_content,
+    Book, Draft, DraftRefusal, Value, books_allow_just_what_holds, example_cases, one_reading,
+    positions_apart_just_by_rules, second_a_not_relevant, whole_in_content,
 };
 use machine::{Machine, Numbered, leads_to};
 use rules::{Rule, Template};
@@ -88,6 +88,7 @@ fn reopened_and_sealed(book: Book) -> Book
 fn all_rules_hold(book: &Book, show: &[u8]) -> bool
     ensures { OfItsCues book.now show.now → IsTrue result ↔ IsAllowed book.now show.now }
 {
+    books_allow_just_what_holds();
     for i in 0..book.rules() {
         if !rule_holds(book, i, show) {
             return false;
@@ -111,7 +112,7 @@ fn lead_to_one_position(book: &Book, s: &[u8], t: &[u8]) -> bool
     ensures { OfItsCues book.now s.now → OfItsCues book.now t.now
         → IsTrue result ↔ NoneTellsApart book.now s.now t.now }
 {
-    let _rules = book.rules();
+    positions_apart_just_by_rules();
     leads_to(book, s) == leads_to(book, t)
 }
 

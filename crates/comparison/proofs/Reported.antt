@@ -35,7 +35,7 @@ same_joint : (p q : Joint) → p.left ≡ q.left → p.right ≡ q.right → p �
 same_joint p q e f = ap (λ x. record { left = x; right = p.right }) e ∙ ap (λ y. record { left = q.left; right = y }) f
 
 -- So they are told apart by the rules of either book.
-joint_positions : (s : Comparison) → OnePosition (left_machine s) (left_book s) → OnePosition (right_machine s) (right_book s) → JointPositions s
+joint_positions : (s : Comparison) → OnePosition (left_machine s).steps (left_book s) → OnePosition (right_machine s).steps (right_book s) → JointPositions s
 joint_positions s lefts rights t u here also = (
   λ e. ((lefts t u here also).0 (ap (λ j. j.left) e), (rights t u here also).0 (ap (λ j. j.right) e)),
   λ same. same_joint _ _ ((lefts t u here also).1 same.0) ((rights t u here also).1 same.1),
@@ -44,9 +44,9 @@ joint_positions s lefts rights t u here also = (
 -- What is known of two books by their contents, and reported of them.
 pub record Known (c d : Content) (rep : Report) : Type 0 where
   pub allows : AllowsWhatHolds (content_meaning c) c
-  pub positions : OnePosition (content_meaning c) c
+  pub positions : OnePosition (content_meaning c).steps c
   pub also_allows : AllowsWhatHolds (content_meaning d) d
-  pub also_positions : OnePosition (content_meaning d) d
+  pub also_positions : OnePosition (content_meaning d).steps d
   pub finding : MachinesFinding (content_meaning c) (content_meaning d) rep.finding
   pub tally : TallyOf (content_meaning c) (content_meaning d) (verdict_of rep.finding) rep.tally
 

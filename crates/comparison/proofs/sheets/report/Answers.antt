@@ -8,10 +8,10 @@ invariant_of-result c = let (s, holds, formed) = c.requires in record { readable
 pub returns : goal.returns
 returns c = λ s holds formed. report_of _ c.args.sheet s _ _ holds c.seal.ensures.same_content c.seal-2.ensures.same_content refl
     (record {
-      allows = c.seal.ensures.allowed_if_held;
-      positions = c.seal.ensures.apart_only_by_rules;
-      also_allows = c.seal-2.ensures.allowed_if_held;
-      also_positions = c.seal-2.ensures.apart_only_by_rules;
+      allows = c.seal.ensures.allows_just_what_holds;
+      positions = c.seal.ensures.apart_just_by_rules;
+      also_allows = c.seal-2.ensures.allows_just_what_holds;
+      also_positions = c.seal-2.ensures.apart_just_by_rules;
       finding = c.books_compared-finding.ensures.finds_what_is_so;
       tally = c.books_compared-finding.ensures.tally_is_theirs;
     })

@@ -5,8 +5,8 @@ use Rattle.book.proofs.drafts.Draft.seal.Goals as goal
 pub returns-clause-moves_part_by_part : goal.returns-clause-moves_part_by_part
 returns-clause-moves_part_by_part c = moves_by_parts _ _
 
-pub returns-clause-allowed_if_held : goal.returns-clause-allowed_if_held
-returns-clause-allowed_if_held c = allows_what_holds _ _
+pub returns-clause-allows_just_what_holds : goal.returns-clause-allows_just_what_holds
+returns-clause-allows_just_what_holds c = allows_what_holds _ _
 
-pub returns-clause-apart_only_by_rules : goal.returns-clause-apart_only_by_rules
-returns-clause-apart_only_by_rules c = one_position _ _
+pub returns-clause-apart_just_by_rules : goal.returns-clause-apart_just_by_rules
+returns-clause-apart_just_by_rules c = one_position _ _
