@@ -240,13 +240,15 @@ fn still_to_grant(granted: u32) -> u32
     whole_runs(LIMIT, granted)
 }
 
-/// Grants, and when a verdict has fallen, grants all that a bench can use once more. Answers verdict and tally of each time.
+/// Grants, and when a verdict has fallen, grants all that a bench can use once more. Answers verdict and tally of each time. While the
+/// verdict is open, so only after a grant below 2,048, it answers nothing.
 fn grants_after_verdict<L: Machine + Drop, R: Machine + Drop>(
     left: L,
     right: R,
     grant: u32,
 ) -> Option<((Verdict, (u16, u16)), (Verdict, (u16, u16)))>
-    ensures { IfSome result (λ found. found.0 ≡ found.1) }
+    ensures stay_as_they_were { IfSome result (λ found. found.0 ≡ found.1) }
+    ensures none_only_below_2048 { result ≡ None → grant < 2048 }
 {
     let mut bench = Bench::open(left, right);
     bench.advance(grant);

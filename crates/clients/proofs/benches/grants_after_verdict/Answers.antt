@@ -1,4 +1,5 @@
-use Rattle.std.proofs.Common.{◌≡◌, ◌≢◌, ℕ, ◌+◌, arith}
+use Rattle.std.proofs.Common.{◌≡◌, ◌≢◌, ℕ, ◌+◌, inl, inr, arith}
+use Rattle.std.proofs.lemmas.Bool.{cases_lt}
 use Rattle.search.specs.declared.states.Verdict.{Verdict}
 use Rattle.search.specs.declared.states.Verdict.TheVariants.{Open}
 use Rattle.bench.specs.declared.cells.TheConstants.{LIMIT}
@@ -6,7 +7,7 @@ use Rattle.clients.proofs.Told.{Opened}
 use Rattle.clients.proofs.Steady.{one_grant}
 use Rattle.clients.proofs.Again.{one_verdict, one_tally}
 use Rattle.clients.proofs.TwoGrants.{twice, reached}
-use Rattle.clients.proofs.Fallen.{nothing_changes}
+use Rattle.clients.proofs.Fallen.{nothing_changes, has_fallen}
 use Rattle.clients.proofs.benches.grants_after_verdict.Goals as goal
 
 -- The pairs are the same when all parts are.
@@ -31,4 +32,18 @@ returns g c =
     let e = nothing_changes lefts rights x y c.args.grant (0 + c.args.grant + LIMIT) here there first second shut (omega arith) in
     let verdict = one_verdict lefts rights here there e _ _ c.verdict-verdict.ensures c.verdict-verdict_then.ensures in
     let tally = one_tally lefts rights here there e _ _ _ _ c.tally-tally.ensures.answers_and_stays c.tally-tally_then.ensures.answers_and_stays in
-    same_pairs verdict tally.0 tally.1
+    record { stay_as_they_were = same_pairs verdict tally.0 tally.1; none_only_below_2048 = λ e. cc e }
+
+pub returns-then-is_open-clause-none_only_below_2048 : goal.returns-then-is_open-clause-none_only_below_2048
+returns-then-is_open-clause-none_only_below_2048 g c = λ none.
+    let lefts = g.L.Machine.meaning in
+    let rights = g.R.Machine.meaning in
+    let x = c.args.left in
+    let y = c.args.right in
+    let here = c.advance.new.self in
+    let so = one_grant lefts rights c.args.grant c.open-bench.result _ x y here
+    record { machines = c.open-bench.ensures.machines_taken_in; truth = c.open-bench.ensures.tells_the_truth; stays = c.open-bench.ensures.stays_unlike } c.advance.ensures in
+    elim (cases_lt c.args.grant 2048) [
+      | inl low ↦ low
+      | inr enough ↦ absurd (has_fallen lefts rights x y c.args.grant here _ so (omega (arith, enough)) c.verdict-verdict.ensures (c.is_open.ensures.just_for_open.0 c.if-is_open.true))
+    ]
