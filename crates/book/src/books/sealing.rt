@@ -17,8 +17,10 @@ impl Draft {
     pub fn seal(self) -> Book
         ensures same_content { book_content result ≡ draft_content self }
         ensures moves_part_by_part { MovesByParts (book_meaning result) (book_content result) }
-        ensures allows_just_what_holds { AllowsWhatHolds (book_meaning result) (book_content result) }
-        ensures apart_just_by_rules { OnePosition (book_meaning result).steps (book_content result) }
+        ensures allows_just_what_holds { AllowsWhatHolds
+            (book_meaning result) (book_content result) }
+        ensures apart_just_by_rules { OnePosition
+            (book_meaning result).steps (book_content result) }
     {
         let Draft { cues, held, .. } = self;
         Book { cues, held }

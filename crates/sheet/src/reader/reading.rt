@@ -93,7 +93,8 @@ impl<'a> Reader<'a> {
 
     // Reads a section's line: its count, within limits.
     fn section(&mut self, word: &[u8], least: u8, most: u8) -> Result<u8, Fault>
-        ensures { ReadLine result (λ n fs. (least ≤ n) × (n ≤ most) × (fs ≡ section_line word.now n))
+        ensures { ReadLine result
+            (λ n fs. (least ≤ n) × (n ≤ most) × (fs ≡ section_line word.now n))
             (SectionDue word.now least most) self.old self.new }
     {
         let line = self.line;
