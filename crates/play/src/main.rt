@@ -105,8 +105,8 @@ fn number(line: &str) -> Option<u8>
 
 // Calls the cue, and says what it did.
 fn take(watch: &mut Watch<Table>, cue: u8) -> Result<Stand, CueRefusal>
-    ensures told { Told result watch.old watch.new cue }
-    ensures moved { standing watch.new ≡ after_cue table_meaning (standing watch.old) cue }
+    ensures told_as_taken { Told result watch.old watch.new cue }
+    ensures moves_if_taken { standing watch.new ≡ after_cue table_meaning (standing watch.old) cue }
 {
     watch.cue(cue)?;
     let position = watch.start();

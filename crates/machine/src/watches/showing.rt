@@ -39,7 +39,7 @@ impl Error for CueRefusal {}
 impl<M: Machine> Watch<M> {
     /// Begins a show over a machine. The slip that comes with it is unspent.
     pub fn begin(machine: M) -> (Watch<M>, Slip)
-        ensures begun { standing result.0 ≡ begun M.Machine.meaning machine }
+        ensures at_the_start { standing result.0 ≡ begun M.Machine.meaning machine }
         ensures unspent { ¬ IsSpent result.1 }
         ensures stands_where_its_show_leads { WholeShow M.Machine.meaning machine }
     {
@@ -54,8 +54,9 @@ impl<M: Machine> Watch<M> {
 
     /// Takes the next cue of the show. A refusal leaves the watch as it was.
     pub fn cue(&mut self, cue: u8) -> Result<(), CueRefusal>
-        ensures answered { result ≡ cue_answer M.Machine.meaning (standing self.old) cue }
-        ensures moved { standing self.new ≡ after_cue M.Machine.meaning (standing self.old) cue }
+        ensures answered_when_due { result ≡ cue_answer M.Machine.meaning (standing self.old) cue }
+        ensures moves_if_taken { standing self.new
+            ≡ after_cue M.Machine.meaning (standing self.old) cue }
     {
         if cue >= self.machine.cues() {
             return Err(CueRefusal::NoSuchCue);

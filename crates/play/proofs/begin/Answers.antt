@@ -15,4 +15,4 @@ pub returns-clause-flies_only_after_load : goal.returns-clause-flies_only_after_
 returns-clause-flies_only_after_load c =
     let w = c.begin.result.0 in
     let means : Means (table_meaning w.machine) load_first = search rules in
-    flies_at_start w (ap (λ v. v.position) c.begin.ensures.begun) means
+    flies_at_start w (ap (λ v. v.position) c.begin.ensures.at_the_start) means

@@ -11,7 +11,7 @@ use crate::templates::{Arguments, Template};
 impl Rule {
     /// The letter that a cue is to the rule.
     pub fn letter(self, cue: u8) -> Letter
-        ensures value { result ≡ letter_of (terms self) cue }
+        ensures is_its_letter { result ≡ letter_of (terms self) cue }
         ensures cue_falls_under_it { FallsUnder (terms self) cue result }
     {
         if cue == self.a {
@@ -25,7 +25,7 @@ impl Rule {
 
     /// How many states the rule has: those of its minimal automaton, numbered from 0 as words over its letters first reach them.
     pub fn states(self) -> u8
-        ensures value { result ≡ states_of (terms self) }
+        ensures has_so_many { result ≡ states_of (terms self) }
         ensures numbered_by_first_reach { StatesAre (terms self).template (terms self).n }
     {
         match self.template {
@@ -51,7 +51,7 @@ impl Rule {
     /// Whether a show may close at a state (whether it is accepting): the rule holds of the shows that lead there. At a state that
     /// the rule lacks none may.
     pub fn closes(self, state: u8) -> bool
-        ensures value { result ≡ closes_at (terms self) state }
+        ensures closes_there { result ≡ closes_at (terms self) state }
         ensures closes_where_it_holds { ClosesWhereItHolds (terms self) }
     {
         match self.template {
@@ -63,7 +63,7 @@ impl Rule {
 
     /// Whether the rule holds of a show.
     pub fn holds(self, show: &[u8]) -> bool
-        ensures value { IsTrue result ↔ HoldsOf (terms self) show.now }
+        ensures yes_if_held { IsTrue result ↔ HoldsOf (terms self) show.now }
         ensures sees_place_by_place { SeenByPlace (terms self) }
     {
         let state = show

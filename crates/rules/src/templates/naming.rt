@@ -51,7 +51,7 @@ impl Template {
     /// Which arguments the template takes: just those on which it hangs when it holds.
     #[tactic(auto, using(crate::proofs::Taken::takes_what_it_needs))]
     pub fn arguments(self) -> Arguments
-        ensures value { result ≡ arguments_of self }
+        ensures takes_these { result ≡ arguments_of self }
         ensures takes_what_it_needs { TakesWhatItNeeds self }
     {
         match self {
