@@ -1,6 +1,6 @@
 -- What the contracts of comparisons come to.
 -- Assumes nothing.
-use Rattle.std.proofs.Common.{◌≡◌, ◌≢◌, ℕ, ◌<◌, ◌≤◌, ◌⊎◌, inl, inr, ◌↔◌, Bool, IsTrue, List, [], ◌∷◌, length, Result, Ok, Err, IfOk, codes, refl, subst, append-nil, arith}
+use Rattle.std.proofs.Common.{◌≡◌, ◌≢◌, ℕ, ◌<◌, ◌≤◌, ◌⊎◌, inl, inr, ◌↔◌, Bool, IsTrue, List, [], ◌∷◌, length, Option, Some, None, Result, Ok, Err, IfOk, codes, refl, sym, ap, ◌∙◌, subst, append-nil, arith}
 use Rattle.std.proofs.lemmas.Bool.{cases_lt}
 use Rattle.std.proofs.lemmas.Fmt.{decimal_digit}
 use Rattle.machine.specs.Show.{Show}
@@ -14,13 +14,19 @@ use Rattle.search.specs.Rank.{Playable, jointly}
 use Rattle.search.specs.Units.{TallyTells}
 use Rattle.sheet.specs.declared.faults.Refusal.TheVariants.{Reader}
 use Rattle.sheet.specs.declared.faults.ReaderRefusal.TheVariants.{TooLong}
-use Rattle.sheet.specs.Sheet.{most_bytes}
+use Rattle.sheet.specs.Sheet.{Comparison, most_bytes}
 use Rattle.sheet.specs.Text.{Text}
 use Rattle.comparison.specs.declared.deciding.Decision.{Decision}
 use Rattle.comparison.specs.declared.deciding.Tally.{Tally}
+use Rattle.comparison.specs.declared.outcomes.Finding.TheVariants as finding
+use Rattle.comparison.specs.declared.reports.Report.{Report}
+use Rattle.comparison.specs.Books.{left_machine, right_machine, IsShow}
+use Rattle.comparison.specs.Finding.{AreEqual, verdict_of}
+use Rattle.comparison.specs.Outcome.{ReportOf}
 use Rattle.comparison.specs.Deciding.{TallyOf, NotCompared}
+use Rattle.comparison.specs.Answering.{ReadsEnough}
 use Rattle.comparison.specs.Printing.{PrintedFor, of_fault, fault_text}
-use Rattle.clients.specs.Comparisons.{HaveJoints}
+use Rattle.clients.specs.Comparisons.{HaveJoints, AllowTheSame, TellsApart, TakesFirst}
 
 -- Two counts are the same or not.
 pub same_or_not : (m n : ℕ) → (m ≡ n) ⊎ (m ≢ n)
@@ -30,7 +36,7 @@ same_or_not m n = elim (cases_lt m n) [
 ]
 
 -- Where two machines are equal, what the tally counts as worked is how many joint positions they have.
-pub joints : (l r : Meaning) (v : Verdict) (t : Tally) → TallyOf l r v t → v ≡ Equal → HaveJoints l r t.worked
+pub joints : (l r : Meaning) (v : Verdict) (t : Tally) → TallyOf l r v t → v ≡ Equal → HaveJoints l.steps r.steps t.worked
 joints l r v t tally e =
     let (same, every) = subst (TallyTells l r _ tally.shows t.worked t.recorded) e tally.tells in
     record {
@@ -92,6 +98,52 @@ too_long_text = simp (decimal_digit 1 (omega arith), decimal_digit 0 (omega arit
 
 pub too_long_printed : (sheet : Text) → most_bytes < length sheet → PrintedFor sheet (codes "refused 1 0 reader\n")
 too_long_printed sheet long = of_fault (record { refusal = Reader TooLong; line = 0 }) (inl (long, refl, refl)) too_long_text
+
+-- Two books are equal just where neither allows a show alone, and they have few enough joint positions.
+pub equal_books : (s : Comparison) → AreEqual s ↔ AllowTheSame s
+equal_books s = (
+  λ (none, most). record {
+    left = λ t cued all i r there fails. none t cued (inl (all, (i, r, there, fails)));
+    right = λ t cued all i r there fails. none t cued (inr (all, (i, r, there, fails)));
+    few = λ many. most (record { shows = many.shows; playable = λ i h. many.cued i (omega arith); apart = λ i j h low. many.apart i j h (omega arith) });
+  },
+  λ same. (
+    λ t cued divides. elim divides [
+      | inl (all, (i, r, there, fails)) ↦ same.left t cued all i r there fails
+      | inr (all, (i, r, there, fails)) ↦ same.right t cued all i r there fails
+    ],
+    λ more. same.few (record { shows = more.shows; cued = λ i h. more.playable i (omega arith); apart = λ i j h low. more.apart i j h (omega arith) }),
+  ),
+)
+
+-- A report finds them equal just then.
+pub reported_equal : (s : Comparison) (r : Report) → ReportOf s r → (r.finding ≡ finding.Equal) ↔ AllowTheSame s
+reported_equal s r report =
+    let found = report.finding finding.Equal in
+    let same = equal_books s in
+    (λ e. same.0 (found.0 e), λ h. found.1 (same.1 h))
+
+-- Two shows that a rule tells apart do not lead equal books to one joint position, so that two are recorded.
+pub two_told_apart : (s : Comparison) (r : Report) → ReportOf s r → AllowTheSame s → (t u : Show) → IsShow s t → IsShow s u → TellsApart s t u → 2 ≤ r.tally.recorded
+two_told_apart s r report same t u cued also (i, x, there, holds, fails) =
+    let equal : verdict_of r.finding ≡ Equal = ap verdict_of ((reported_equal s r report).1 same) in
+    let tally = report.tally in
+    let (all, every) = subst (TallyTells (left_machine s) (right_machine s) _ tally.shows r.tally.worked r.tally.recorded) equal tally.tells in
+    let (a, in_a, to_a, late_a) = every t in
+    let (b, in_b, to_b, late_b) = every u in
+    elim (cases_lt 1 r.tally.recorded) [
+      | inl more ↦ omega (arith, more)
+      | inr few ↦
+          let one : a ≡ b = omega (arith, few, in_a, in_b) in
+          let (lefts, rights) = (report.positions t u cued also).0 (to_a ∙ ap (λ k. jointly (left_machine s).steps (right_machine s).steps (tally.shows k)) one ∙ sym to_b) in
+          absurd (fails (elim there [ inl l ↦ held_over x t u (lefts i x l) holds | inr l ↦ held_over x t u (rights i x l) holds ]))
+    ]
+
+-- Where it is read as far as it takes, the first bytes are read.
+pub enough_read : (there left : Option Text) → ReadsEnough there left → TakesFirst 16385 there left
+enough_read None left enough all e = absurd (cc e)
+enough_read (Some bytes) None enough all e = absurd enough
+enough_read (Some bytes) (Some rest) enough all e = let one : bytes ≡ all = cc in (rest, refl, rw one at enough)
 
 -- What is said by a test that is right is so.
 pub said : {E P : Type 0} (r : Result Bool E) → IfOk r (λ is. IsTrue is ↔ P) → P → IfOk r IsTrue

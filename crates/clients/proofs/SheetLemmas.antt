@@ -1,17 +1,18 @@
 -- How a small sheet is written, and where names stand in any.
 -- Assumes nothing.
-use Rattle.std.proofs.Common.{◌≡◌, ℕ, zero, suc, ◌≤◌, List, [], ◌∷◌, ◌++◌, length, Some, None, Option, map, take, slice_get, flat_map, refl, sym, ap, ◌∙◌, append_assoc, subst, unwrap_or, arith, rules, Result, Ok, Err, IsOk, IfOk, IfSome, MatchOption, option_map}
-use Rattle.std.proofs.lemmas.Option.{slice_get-map}
+use Rattle.std.proofs.Common.{◌≡◌, ℕ, zero, suc, ◌≤◌, ◌↔◌, List, [], ◌∷◌, ◌++◌, length, Some, None, Option, map, take, slice_get, flat_map, refl, sym, ap, ◌∙◌, append_assoc, subst, unwrap_or, arith, rules, Result, Ok, Err, IsOk, IfOk, IsSome, IfSome, MatchOption, option_map}
+use Rattle.std.proofs.lemmas.Option.{slice_get-map, slice_get_within}
 use Rattle.std.proofs.lemmas.Fmt.{decimal_digit}
+use Rattle.std.proofs.lemmas.List.{length-map}
 use Rattle.std.proofs.lemmas.List.Concat.{flat_map-append}
 use Rattle.sheet.specs.declared.faults.Fault.{Fault}
 use Rattle.sheet.specs.declared.fields.Field.{Field}
 use Rattle.sheet.specs.declared.sheets.Sheet.{Sheet}
-use Rattle.sheet.specs.Names.{Different, fields_of, field_text, field_at}
-use Rattle.sheet.specs.Reading.{Accepts, HoldsWritten}
+use Rattle.sheet.specs.Names.{Different, names_of, fields_of, field_text, field_at}
+use Rattle.sheet.specs.Reading.{Accepts, HoldsWritten, AcceptedWhenWritten}
 use Rattle.sheet.specs.Sheet.{Comparison, InCues, begins, written, WellFormed, cues_word, section_line, name_line, cues_lines, book_lines, left_word, right_word}
 use Rattle.sheet.specs.Text.{Text, NameForm, written_line}
-use Rattle.clients.specs.Sheets.{one_cue_text, IsOneCue, StandsAt}
+use Rattle.clients.specs.Sheets.{one_cue_text, IsOneCue, HasNameAt, NamesCue}
 
 -- What the sheet of one cue says.
 abbrev pub one_cue : Text → Comparison
@@ -50,7 +51,7 @@ in_whole : (head names front x after rest : Text) → names ≡ front ++ (x ++ 1
 in_whole head names front x after rest e = rw e (simp append_assoc)
 
 -- So it stands in the whole sheet behind all lines before it.
-pub stands_there : (s : Comparison) (c : ℕ) (x : Text) → slice_get s.names c ≡ Some x → StandsAt (written s) (length (begins (InCues (length s.names) (take c s.names)))) x
+pub stands_there : (s : Comparison) (c : ℕ) (x : Text) → slice_get s.names c ≡ Some x → HasNameAt (written s) (length (begins (InCues (length s.names) (take c s.names)))) x
 stands_there s c x there =
     let (after, e) = in_lines s.names c x there in
     let cues = cues_lines (length s.names) s.names in
@@ -67,14 +68,30 @@ stands_there s c x there =
 
 -- A part of the sheet in which the name of a cue is read stands there.
 pub field_there : (r : Sheet) (sheet : Text) (c : ℕ) (o : Option Field) → HoldsWritten r sheet
-    → MatchOption o (length (fields_of r.names) ≤ c) (λ f. slice_get (fields_of r.names) c ≡ Some f) → IfSome o (λ f. StandsAt sheet (field_at f) (field_text f))
+    → MatchOption o (length (fields_of r.names) ≤ c) (λ f. slice_get (fields_of r.names) c ≡ Some f) → IfSome o (λ f. HasNameAt sheet (field_at f) (field_text f))
 field_there r sheet c None held found = tt
 field_there r sheet c (Some f) (s, holds, formed, is) found =
     let (part, name, line, at) = holds.places c f found in
     let named : slice_get s.names c ≡ Some (field_text f) = rw (← holds.names) (slice_get-map field_text (fields_of r.names) c ∙ ap (λ o. option_map field_text o) found) in
     let at' : field_at f ≡ length (begins (InCues (length s.names) (take c s.names))) = ap field_at name ∙ at in
-    subst (λ t. StandsAt t (field_at f) (field_text f)) is
-    (subst (λ n. StandsAt (written s) n (field_text f)) (sym at') (stands_there s c (field_text f) named))
+    subst (λ t. HasNameAt t (field_at f) (field_text f)) is
+    (subst (λ n. HasNameAt (written s) n (field_text f)) (sym at') (stands_there s c (field_text f) named))
+
+-- As many fields stand in a sheet as was read as it names cues.
+as_many : (r : Sheet) (s : Comparison) → names_of r.names ≡ s.names → length (fields_of r.names) ≡ length s.names
+as_many r s e = sym (length-map (fields_of r.names) field_text) ∙ ap length e
+
+-- So there is a field for just the cues that are named.
+pub field_if_named : (r : Sheet) (sheet : Text) (c : ℕ) (o : Option Field) → HoldsWritten r sheet → AcceptedWhenWritten (Ok r) sheet
+    → MatchOption o (length (fields_of r.names) ≤ c) (λ f. slice_get (fields_of r.names) c ≡ Some f) → IsSome o ↔ NamesCue sheet c
+field_if_named r sheet c None held when few = (
+  λ h. absurd (cc h),
+  λ (s, formed, is, named). absurd (omega (arith, few, named, as_many r s ((when s).1 (formed, is)).names)),
+)
+field_if_named r sheet c (Some f) (s, holds, formed, is) when found = (
+  λ h. (s, formed, is, let low = slice_get_within (fields_of r.names) c f found in omega (arith, low, as_many r s holds.names)),
+  λ h. refl,
+)
 
 -- What is accepted is read.
 pub is_read : (answer : Result Sheet Fault) (s : Comparison) → Accepts answer s → IsOk answer

@@ -5,7 +5,7 @@ use Rattle.machine.specs.Show.{Show}
 use Rattle.rules.specs.declared.templates.Template.{Template}
 use Rattle.rules.specs.Template.{Holds, without_b}
 use Rattle.rules.specs.Word.{Word}
-use Rattle.rules.specs.States.{OverItsLetters, led}
+use Rattle.rules.specs.States.{OverItsLetters, Numbers, led}
 use Rattle.rules.specs.Rule.{Terms}
 
 -- A word tells two counts apart, and a word tells apart whether its Bs stand in it.
@@ -32,6 +32,10 @@ word_state r w = led r.template r.n 0 w
 -- No word behind two others makes the rule hold behind the one and not behind the other.
 abbrev pub Inseparable : Terms → Word → Word → Type 0
 Inseparable r u v = (w : Word) → OverItsLetters r.template w → Holds r.template r.n (u ++ w) ↔ Holds r.template r.n (v ++ w)
+
+-- Words are numbered as the states of a rule are.
+abbrev pub AsItsStates : Terms → (Word → ℕ) → Type 0
+AsItsStates r number = Numbers r.template r.n number
 
 -- A word over the rule's letters leads to this state.
 abbrev pub Reached : Terms → ℕ → Type 0

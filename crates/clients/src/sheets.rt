@@ -1,8 +1,9 @@
 //! Uses of sheets.
-ghost use Rattle.std.specs.Prelude.{◌≡◌, ◌+◌, ◌<◌, ◌⊎◌, ◌↔◌, length, IsTrue, IsOk, IfOk, IfSome, Some};
+ghost use Rattle.std.specs.Prelude.{◌≡◌, ◌+◌, ◌<◌, ◌⊎◌, ◌↔◌, length, IsTrue, IsOk, IfOk, IsSome, IfSome, Some};
+ghost use Rattle.book.specs.Draft.{draft_number};
 ghost use Rattle.sheet.specs.Names.{field_at, field_line, field_text};
 ghost use Rattle.sheet.specs.Text.{NameForm};
-ghost use Rattle.clients.specs.Sheets.{IsOneCue, StandsAt, one_cue_text};
+ghost use Rattle.clients.specs.Sheets.{IsLaidOut, IsOneCue, HasNameAt, NamesCue, IsRefusedByADraft};
 
 use machine::Numbered;
 use sheet::{Fault, Field, ReaderRefusal, Refusal, Sheet, none_is_longer, only_two_of_a_draft};
@@ -17,9 +18,9 @@ fn one_cue_is_read(alloc: Global, name: &str) -> Result<bool, AllocError>
 }
 
 /// Reads a sheet. Where it is laid out as that of one cue, it is just that.
-fn read_back(sheet: &[u8]) -> Result<Sheet<'_>, Fault>
-    ensures accepted { (x : _) → NameForm x → sheet.now ≡ one_cue_text x → IsOk result }
-    ensures as_laid_out { (x : _) → NameForm x → sheet.now ≡ one_cue_text x → IfOk result (IsOneCue x) }
+fn read_as_laid_out(sheet: &[u8]) -> Result<Sheet<'_>, Fault>
+    ensures one_cue_is_accepted { (x : _) → IsLaidOut sheet.now x → IsOk result }
+    ensures one_cue_is_read { (x : _) → IsLaidOut sheet.now x → IfOk result (IsOneCue x) }
 {
     Sheet::read(sheet)
 }
@@ -35,10 +36,12 @@ fn fits_a_page(sheet: &[u8]) -> bool
     }
 }
 
-/// The field in which the name of a cue stands, in its line and at its byte.
+/// The field in which the name of a cue stands, in its line and at its byte. A sheet that is accepted has one for each of its cues.
 fn name_field(sheet: &[u8], cue: u8) -> Option<Field<'_>>
     ensures stands_in_its_line { IfSome result (λ f. field_line f ≡ cue + 2) }
-    ensures stands_at_its_byte { IfSome result (λ f. StandsAt sheet.now (field_at f) (field_text f)) }
+    ensures stands_at_its_byte { IfSome result (λ f.
+        HasNameAt sheet.now (field_at f) (field_text f)) }
+    ensures there_is_one_for_each_cue { IsSome result ↔ NamesCue sheet.now cue }
 {
     match Sheet::read(sheet) {
         Ok(sheet) => sheet.names.field(cue),
@@ -66,7 +69,9 @@ fn fault_of_nothing() -> Option<(u8, u32)>
 
 /// The number of the fault, where a draft turns a sheet down.
 fn number_by_a_draft(sheet: &[u8]) -> Option<u8>
-    ensures { IfSome result (λ n. (n ≡ 10) ⊎ (n ≡ 11)) }
+    ensures ten_or_eleven { IfSome result (λ n. (n ≡ 10) ⊎ (n ≡ 11)) }
+    ensures told_if_a_draft_refuses { (e : _) → IsRefusedByADraft sheet.now e →
+        result ≡ Some (draft_number e) }
 {
     only_two_of_a_draft();
     match Sheet::read(sheet) {

@@ -2,10 +2,10 @@
 ghost use Rattle.std.specs.Prelude.{ℕ, ◌≡◌, ◌<◌, ◌≤◌, ◌↔◌, Some, slice_get, IsTrue, IsSome, IfSome, IfNone};
 ghost use Rattle.rules.specs.Rule.{terms};
 ghost use Rattle.rules.specs.Rule.{Terms};
-ghost use Rattle.rules.specs.States.{OverItsLetters, Numbers};
+ghost use Rattle.rules.specs.States.{OverItsLetters};
 ghost use Rattle.rules.specs.Word.{Word};
 ghost use Rattle.clients.specs.Tables.{IsOutside};
-ghost use Rattle.clients.specs.Rules.{HangsOnCount, HangsOnB, CalledAtLeast, EndsWith, EachAnswered, word_state, Inseparable, Reached, IfPast};
+ghost use Rattle.clients.specs.Rules.{HangsOnCount, HangsOnB, CalledAtLeast, EndsWith, EachAnswered, word_state, Inseparable, AsItsStates, Reached, IfPast};
 
 use machine::Numbered;
 use rules::{Arguments, Letter, Rule, Template, words_told_apart};
@@ -54,7 +54,8 @@ fn hangs_on_b(template: Template) -> bool
 
 /// Whether a show calls a cue n times or more, by a rule of existence; none where no rule has such a count.
 fn called_at_least(a: u8, n: u8, show: &[u8]) -> Option<bool>
-    ensures yes_if_called_so_often { IfSome result (λ yes. IsTrue yes ↔ CalledAtLeast n a show.now) }
+    ensures yes_if_called_so_often { IfSome result (λ yes.
+        IsTrue yes ↔ CalledAtLeast n a show.now) }
     ensures none_only_outside_its_limits { IfNone result (IsOutside n 14) }
 {
     let rule = Rule::new(Template::Existence, a, 0, n).ok()?;
@@ -72,7 +73,8 @@ fn ends_with(a: u8, show: &[u8]) -> Option<bool>
 
 /// Whether each call of one cue is answered by a later one of another, by a rule of response; none where they are one cue.
 fn each_answered(a: u8, b: u8, show: &[u8]) -> Option<bool>
-    ensures yes_if_each_is_answered { IfSome result (λ yes. IsTrue yes ↔ EachAnswered a b show.now) }
+    ensures yes_if_each_is_answered { IfSome result (λ yes.
+        IsTrue yes ↔ EachAnswered a b show.now) }
     ensures none_only_for_one_cue { IfNone result (a ≡ b) }
 {
     let rule = Rule::new(Template::Response, a, b, 0).ok()?;
@@ -147,7 +149,7 @@ trait Numbering {
     /// The rule whose words are numbered, as its states are.
     fn rule(&self) -> Rule
         ensures says_this { terms result ≡ of_rule self.now }
-        ensures numbered_by_first_reach { Numbers (of_rule self.now).template (of_rule self.now).n (number_of self.now) };
+        ensures numbered_by_first_reach { AsItsStates (of_rule self.now) (number_of self.now) };
 
     /// The number of a word.
     fn number(&self, word: &[Letter]) -> u8

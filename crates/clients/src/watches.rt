@@ -34,7 +34,8 @@ fn takes_cue<M: Machine>(watch: &mut Watch<M>, cue: u8) -> bool
 /// Of a show of the machine's cues, as long as a show may be, every cue is taken, and it is allowed as the machine says.
 fn rehearsed<M: Machine>(machine: M, show: &[u8]) -> (Closed<M>, bool)
     ensures machine_comes_back { result.0.machine ≡ machine }
-    ensures every_cue_is_taken { FitsAShow (M.Machine.meaning machine).steps show.now → result.1 ≡ true }
+    ensures every_cue_is_taken { FitsAShow (M.Machine.meaning machine).steps show.now →
+        result.1 ≡ true }
     ensures all_are_counted { FitsAShow (M.Machine.meaning machine).steps show.now →
         result.0.taken ≡ length show.now }
     ensures allowed_as_the_show { FitsAShow (M.Machine.meaning machine).steps show.now →
