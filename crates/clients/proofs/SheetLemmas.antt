@@ -9,7 +9,7 @@ use Rattle.sheet.specs.declared.faults.Fault.{Fault}
 use Rattle.sheet.specs.declared.fields.Field.{Field}
 use Rattle.sheet.specs.declared.sheets.Sheet.{Sheet}
 use Rattle.sheet.specs.Names.{Different, names_of, fields_of, field_text, field_at}
-use Rattle.sheet.specs.Reading.{Accepts, HoldsWritten, AcceptedWhenWritten}
+use Rattle.sheet.specs.Reading.{Accepts, Holds, HoldsWritten, InItsLine, AcceptedWhenWritten, ReadRightly}
 use Rattle.sheet.specs.Sheet.{Comparison, InCues, begins, written, WellFormed, cues_word, section_line, name_line, cues_lines, book_lines, left_word, right_word}
 use Rattle.sheet.specs.Text.{Text, NameForm, written_line}
 use Rattle.clients.specs.Sheets.{one_cue_text, IsOneCue, HasNameAt, NamesCue}
@@ -102,6 +102,20 @@ is_read (Err f) s accepts = absurd accepts
 pub is_one_cue : (answer : Result Sheet Fault) (name : Text) → Accepts answer (one_cue name) → IfOk answer (IsOneCue name)
 is_one_cue (Ok r) name holds = record { names = holds.names; left = holds.left; right = holds.right }
 is_one_cue (Err f) name accepts = absurd accepts
+
+-- A sheet that is read as that of one cue holds what that says.
+holds_one_cue : (r : Sheet) (sheet name : Text) → HoldsWritten r sheet → IsOneCue name r → Holds r (one_cue name)
+holds_one_cue r sheet name (s, held, formed, is) read = record {
+  names = read.names;
+  places = subst (λ names. (c : ℕ) (f : Field) → slice_get (fields_of r.names) c ≡ Some f → InItsLine names c f) (sym held.names ∙ read.names) held.places;
+  left = read.left;
+  right = read.right;
+}
+
+-- So it was laid out as that.
+pub laid_out_so : (answer : Result Sheet Fault) (sheet : Text) → ReadRightly answer sheet → AcceptedWhenWritten answer sheet → IfOk answer (λ r. (name : Text) → IsOneCue name r → sheet ≡ one_cue_text name)
+laid_out_so (Ok r) sheet held told = λ name read. sym ((told (one_cue name)).0 (holds_one_cue r sheet name held read)).1 ∙ one_cue_written name
+laid_out_so (Err f) sheet fault told = tt
 
 -- What is written so is as long.
 pub as_long : (sheet : Text) (s : Comparison) (most : ℕ) → written s ≡ sheet → length (written s) ≤ most → length sheet ≤ most

@@ -3,7 +3,7 @@ ghost use Rattle.std.specs.Prelude.{◌≡◌, ◌+◌, ◌<◌, ◌⊎◌, ◌�
 ghost use Rattle.book.specs.Draft.{draft_number};
 ghost use Rattle.sheet.specs.Names.{field_at, field_line, field_text};
 ghost use Rattle.sheet.specs.Text.{NameForm};
-ghost use Rattle.clients.specs.Sheets.{IsLaidOut, IsOneCue, HasNameAt, NamesCue, IsRefusedByADraft};
+ghost use Rattle.clients.specs.Sheets.{one_cue_text, IsLaidOut, IsOneCue, HasNameAt, NamesCue, IsRefusedByADraft};
 
 use machine::Numbered;
 use sheet::{Fault, Field, ReaderRefusal, Refusal, Sheet, none_is_longer, only_two_of_a_draft};
@@ -17,10 +17,12 @@ fn one_cue_is_read(alloc: Global, name: &str) -> Result<bool, AllocError>
     Ok(Sheet::read(text.as_bytes()).is_ok())
 }
 
-/// Reads a sheet. Where it is laid out as that of one cue, it is just that.
+/// Reads a sheet. Where it is laid out as that of one cue, it is just that; and where it is just that, it was laid out so.
 fn read_as_laid_out(sheet: &[u8]) -> Result<Sheet<'_>, Fault>
     ensures one_cue_is_accepted { (x : _) → IsLaidOut sheet.now x → IsOk result }
     ensures one_cue_is_read { (x : _) → IsLaidOut sheet.now x → IfOk result (IsOneCue x) }
+    ensures was_laid_out_so { IfOk result (λ r. (x : _) →
+        IsOneCue x r → sheet.now ≡ one_cue_text x) }
 {
     Sheet::read(sheet)
 }
