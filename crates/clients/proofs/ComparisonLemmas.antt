@@ -11,7 +11,9 @@ use Rattle.book.specs.Book.{NotToldApart}
 use Rattle.search.specs.declared.states.Verdict.{Verdict}
 use Rattle.search.specs.declared.states.Verdict.TheVariants.{Open, Equal, Left, Right, Full, Unlike}
 use Rattle.search.specs.Rank.{Playable, jointly}
+use Rattle.search.specs.Truth.{TrueVerdict}
 use Rattle.search.specs.Units.{TallyTells}
+use Rattle.bench.specs.declared.cells.TheConstants.{LIMIT}
 use Rattle.sheet.specs.declared.faults.Refusal.TheVariants.{Reader}
 use Rattle.sheet.specs.declared.faults.ReaderRefusal.TheVariants.{TooLong}
 use Rattle.sheet.specs.Sheet.{Comparison, most_bytes}
@@ -26,6 +28,8 @@ use Rattle.comparison.specs.Outcome.{ReportOf}
 use Rattle.comparison.specs.Deciding.{TallyOf, NotCompared}
 use Rattle.comparison.specs.Answering.{ReadsEnough}
 use Rattle.comparison.specs.Printing.{PrintedFor, of_fault, fault_text}
+use Rattle.clients.specs.Comparing.{AreSame}
+use Rattle.clients.proofs.Compared.{all_agree, all_equal}
 use Rattle.clients.specs.Comparisons.{HaveJoints, AllowTheSame, TellsApart, TakesFirst}
 
 -- Two counts are the same or not.
@@ -44,6 +48,10 @@ joints l r v t tally e =
       apart = λ i j below inside. tally.first.apart i j below (omega (arith, same, inside));
       every = λ u. let (i, inside, one, later) = every u in (i, omega (arith, same, inside), one);
     }
+
+-- They are found equal just where they are the same for every show, and a bench can tell.
+pub found_same : (l r : Meaning) (v : Verdict) → TrueVerdict l r LIMIT v → (v ≡ Equal) ↔ AreSame l r
+found_same l r v truth = (λ e. all_agree l r LIMIT (truth.equal.0 e), λ same. truth.equal.1 (all_equal l r LIMIT same))
 
 -- Whatever the verdict, no more joint positions are worked than recorded.
 tells_fewer : (l r : Meaning) (limit : ℕ) (shows : ℕ → Show) (w n : ℕ) (v : Verdict) → TallyTells l r limit shows w n v → w ≤ n

@@ -4,7 +4,7 @@ ghost use Rattle.std.specs.Bool.{OnFalse};
 ghost use Rattle.comparison.specs.Printing.{PrintedFor};
 ghost use Rattle.comparison.specs.declared.answering.AnswerError.TheVariants.{Reading, Writing};
 ghost use Rattle.clients.specs.Comparisons.{IsSheetOf, AtMostOneWithoutRules, TwoIfToldApart, HasEqualBooks, HaveJoints, TakesAtMost, TakesFirst, HoldsTheSame};
-ghost use Rattle.clients.specs.Granting.{AreSame};
+ghost use Rattle.clients.specs.Comparing.{AreSame};
 
 use bench::Verdict;
 use comparison::{AnswerError, Decision, Finding, Outcome, answer, compared, decide};
