@@ -14,8 +14,10 @@ use Rattle.search.specs.Rank.{Playable, jointly}
 use Rattle.search.specs.Truth.{TrueVerdict}
 use Rattle.search.specs.Units.{TallyTells}
 use Rattle.bench.specs.declared.cells.TheConstants.{LIMIT}
+use Rattle.sheet.specs.declared.faults.Fault.{Fault}
 use Rattle.sheet.specs.declared.faults.Refusal.TheVariants.{Reader}
 use Rattle.sheet.specs.declared.faults.ReaderRefusal.TheVariants.{TooLong}
+use Rattle.sheet.specs.Fault.{FaultOf}
 use Rattle.sheet.specs.Sheet.{Comparison, most_bytes}
 use Rattle.sheet.specs.Text.{Text}
 use Rattle.comparison.specs.declared.deciding.Decision.{Decision}
@@ -152,6 +154,11 @@ pub enough_read : (there left : Option Text) → ReadsEnough there left → Take
 enough_read None left enough all e = absurd (cc e)
 enough_read (Some bytes) None enough all e = absurd enough
 enough_read (Some bytes) (Some rest) enough all e = let one : bytes ≡ all = cc in (rest, refl, rw one at enough)
+
+-- A fault in line 0 is that of a sheet that is too long.
+pub in_line_0 : (sheet : Text) (f : Fault) → FaultOf sheet f → f.line ≡ 0 → most_bytes < length sheet
+in_line_0 sheet f (inl (long, refusal, line)) none = long
+in_line_0 sheet f (inr (fits, fault)) none = absurd (omega (arith, fault.line, none))
 
 -- What is said by a test that is right is so.
 pub said : {E P : Type 0} (r : Result Bool E) → IfOk r (λ is. IsTrue is ↔ P) → P → IfOk r IsTrue

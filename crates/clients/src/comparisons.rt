@@ -25,6 +25,16 @@ fn recorded_of(sheet: &[u8]) -> Option<u16>
     }
 }
 
+/// The line with which a sheet is refused. It is 0 only where the sheet is too long.
+fn refused_in_line(sheet: &[u8]) -> Option<u32>
+    ensures { IfSome result (λ line. line ≡ 0 → 16384 < length sheet.now) }
+{
+    match compared(sheet) {
+        Outcome::Refused(fault) => Some(fault.line),
+        Outcome::Compared(_) => None,
+    }
+}
+
 /// Whether a sheet's two books are found to be equal: just then neither allows a show alone, and they have no more than 2,048
 /// joint positions.
 fn is_found_equal(sheet: &[u8]) -> bool
