@@ -1,6 +1,7 @@
 //! Uses of a bench.
 ghost use Rattle.std.specs.Prelude.{◌≡◌, ◌≢◌, ℕ, ◌+◌, ◌<◌, ◌≤◌, ◌↔◌, IsTrue, IfSome, None, take};
 ghost use Rattle.search.specs.declared.states.Verdict.TheVariants.{Open};
+ghost use Rattle.search.specs.Search.{recorded};
 ghost use Rattle.clients.specs.Comparing.{SameCues, NotSameCues, EqualSays, FullSays, UnlikeSays};
 ghost use Rattle.clients.specs.Comparing.{SideSays, WritesFront, DifferFirst, BenchFinds};
 ghost use Rattle.clients.specs.Comparing.{AreSame, AreTooLarge, NoneToFind};
@@ -211,6 +212,21 @@ fn spare<L: Machine, R: Machine>(bench: &Bench<L, R>) -> (Verdict, u16, u16)
 {
     let (worked, recorded) = bench.tally();
     (bench.verdict(), recorded - worked, 2048 - recorded)
+}
+
+/// Grants so much to any bench, and answers how many joint positions that worked. No more are worked than have a place.
+fn granted<L: Machine, R: Machine>(bench: &mut Bench<L, R>, units: u32) -> u16
+    ensures worked_have_places { bench.new.state.worked ≤ 2048 }
+{
+    bench.advance(units)
+}
+
+/// Whether a joint position waits to be worked on any bench. Nothing is counted for it.
+fn waits<L: Machine, R: Machine>(bench: &Bench<L, R>) -> bool
+    ensures one_is_left { IsTrue result → bench.now.state.worked < recorded bench.now.state }
+{
+    bench.keeps_order();
+    bench.verdict().is_open()
 }
 
 /// Grants to a bench so often, and gives both machines back with the verdict. They are of one kind, so they could be exchanged.

@@ -10,5 +10,5 @@ returns c = (
   c.wheel.ensures,
   c.wheel-2.ensures,
   first_grant table_meaning table_meaning c.wheel.result c.wheel-2.result c.open-bench.result c.advance.new.self LIMIT c.advance.result
-      c.open-bench.ensures.machines_taken_in c.open-bench.ensures.search_opened c.advance.ensures,
+      c.open-bench.ensures.machines_taken_in c.open-bench.ensures.search_opened c.advance.ensures.answers_and_works,
 )

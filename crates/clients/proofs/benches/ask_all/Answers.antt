@@ -18,7 +18,7 @@ returns g c =
     let here = c.advance.new.self in
     let v = c.verdict-verdict.result in
     let so = one_grant lefts rights LIMIT c.open-bench.result _ x y here
-    record { machines = c.open-bench.ensures.machines_taken_in; truth = c.open-bench.ensures.tells_the_truth; stays = c.open-bench.ensures.stays_unlike } c.advance.ensures in
+    record { machines = c.open-bench.ensures.machines_taken_in; truth = c.open-bench.ensures.tells_the_truth; stays = c.open-bench.ensures.stays_unlike } c.advance.ensures.answers_and_works in
     let left = g.met.L.Machine.lawful x in
     let right = g.met.R.Machine.lawful y in
     let told : SameCues (lefts x).steps (rights y).steps → (after (lefts x) (rights y) LIMIT LIMIT).verdict ≡ v =

@@ -16,7 +16,7 @@ pub loop-init : goal.loop-init
 loop-init g c = at_first g.L.Machine.meaning g.R.Machine.meaning 1 c.open-singly.result
 
 pub loop-preserved : goal.loop-preserved
-loop-preserved g c = once_more g.L.Machine.meaning g.R.Machine.meaning 1 c.open-singly.result c.loop.counter _ c.loop.singly _ c.loop.invariant c.advance-in-loop.ensures
+loop-preserved g c = once_more g.L.Machine.meaning g.R.Machine.meaning 1 c.open-singly.result c.loop.counter _ c.loop.singly _ c.loop.invariant c.advance-in-loop.ensures.answers_and_works
 
 pub returns : goal.returns
 returns g c =
@@ -25,7 +25,7 @@ returns g c =
     let x = c.args.left in
     let y = c.args.right in
     let first = one_grant lefts rights c.args.grant c.open-at_once.result _ x y c.advance.new.self
-    record { machines = c.open-at_once.ensures.machines_taken_in; truth = c.open-at_once.ensures.tells_the_truth; stays = c.open-at_once.ensures.stays_unlike } c.advance.ensures in
+    record { machines = c.open-at_once.ensures.machines_taken_in; truth = c.open-at_once.ensures.tells_the_truth; stays = c.open-at_once.ensures.stays_unlike } c.advance.ensures.answers_and_works in
     let same = kept lefts rights x y c.args.grant c.advance.new.self first in
     let opened = opened_over lefts rights x _ y _ c.open-singly.result (c.release-left.ensures.0 ∙ same.0) (c.release-left.ensures.1 ∙ same.1)
     c.open-singly.ensures.machines_taken_in c.open-singly.ensures.tells_the_truth c.open-singly.ensures.stays_unlike in

@@ -7,7 +7,7 @@ pub loop-init : goal.loop-init
 loop-init g c = at_first g.M.Machine.meaning g.M.Machine.meaning c.args.grant c.open-bench.result
 
 pub loop-preserved : goal.loop-preserved
-loop-preserved g c = once_more g.M.Machine.meaning g.M.Machine.meaning c.args.grant c.open-bench.result c.loop.counter _ c.loop.bench c.advance.new.self c.loop.invariant c.advance.ensures
+loop-preserved g c = once_more g.M.Machine.meaning g.M.Machine.meaning c.args.grant c.open-bench.result c.loop.counter _ c.loop.bench c.advance.new.self c.loop.invariant c.advance.ensures.answers_and_works
 
 pub returns : goal.returns
 returns g c =

@@ -24,9 +24,9 @@ returns g c =
     let here = c.advance.new.self in
     let there = c.advance-2.new.self in
     let opened : Opened lefts rights x y b = record { machines = c.open-bench.ensures.machines_taken_in; truth = c.open-bench.ensures.tells_the_truth; stays = c.open-bench.ensures.stays_unlike } in
-    let first = one_grant lefts rights c.args.grant b _ x y here opened c.advance.ensures in
-    let come = twice lefts rights x y b here there c.args.grant LIMIT _ _ _ _ opened c.advance.ensures c.advance-2.ensures c.tally-tally_then.ensures.answers_and_stays in
-    let second = reached lefts rights x y b here there c.args.grant LIMIT _ _ _ _ opened c.advance.ensures c.advance-2.ensures c.tally-tally_then.ensures.answers_and_stays
+    let first = one_grant lefts rights c.args.grant b _ x y here opened c.advance.ensures.answers_and_works in
+    let come = twice lefts rights x y b here there c.args.grant LIMIT _ _ _ _ opened c.advance.ensures.answers_and_works c.advance-2.ensures.answers_and_works c.tally-tally_then.ensures.answers_and_stays in
+    let second = reached lefts rights x y b here there c.args.grant LIMIT _ _ _ _ opened c.advance.ensures.answers_and_works c.advance-2.ensures.answers_and_works c.tally-tally_then.ensures.answers_and_stays
     (0 + c.args.grant + LIMIT) _ there come in
     let shut : here.state.verdict ≢ Open = λ e. let told = c.verdict-verdict.ensures.answered in let closed = c.if-is_open.false in let is = c.is_open.ensures.just_for_open.1 (cc (told, e)) in cc (closed, is) in
     let e = nothing_changes lefts rights x y c.args.grant (0 + c.args.grant + LIMIT) here there first second shut (omega arith) in
@@ -42,7 +42,7 @@ returns-then-is_open-clause-none_only_below_2048 g c = λ none.
     let y = c.args.right in
     let here = c.advance.new.self in
     let so = one_grant lefts rights c.args.grant c.open-bench.result _ x y here
-    record { machines = c.open-bench.ensures.machines_taken_in; truth = c.open-bench.ensures.tells_the_truth; stays = c.open-bench.ensures.stays_unlike } c.advance.ensures in
+    record { machines = c.open-bench.ensures.machines_taken_in; truth = c.open-bench.ensures.tells_the_truth; stays = c.open-bench.ensures.stays_unlike } c.advance.ensures.answers_and_works in
     elim (cases_lt c.args.grant 2048) [
       | inl low ↦ low
       | inr enough ↦ absurd (has_fallen lefts rights x y c.args.grant here _ so (omega (arith, enough)) c.verdict-verdict.ensures (c.is_open.ensures.just_for_open.0 c.if-is_open.true))

@@ -13,7 +13,7 @@ returns-in-Ok g c =
     let lefts = g.L.Machine.meaning in
     let rights = g.R.Machine.meaning in
     let so = one_grant lefts rights LIMIT c.open-bench.result _ c.args.left c.args.right c.advance.new.self
-    record { machines = c.open-bench.ensures.machines_taken_in; truth = c.open-bench.ensures.tells_the_truth; stays = c.open-bench.ensures.stays_unlike } c.advance.ensures in
+    record { machines = c.open-bench.ensures.machines_taken_in; truth = c.open-bench.ensures.tells_the_truth; stays = c.open-bench.ensures.stays_unlike } c.advance.ensures.answers_and_works in
     let done = concluded lefts rights c.args.left c.args.right LIMIT c.advance.new.self so (inl (le_refl LIMIT)) _ (asking lefts rights c.advance.new.self) _ _ _ c.show.ensures in
     let (same, first) = found_first _ _ _ _ _ _ done refl c.in-Ok.length c.in-Ok.is in
     let alike = slice_eq-Decides Decides-eqb (take c.in-Ok.length c.show.new.buffer) c.args.expected.now c.eq.result c.eq.ensures in
@@ -30,7 +30,7 @@ returns-clause-yes_where_a_bench_finds_it g c = λ found.
     let lefts = g.L.Machine.meaning in
     let rights = g.R.Machine.meaning in
     let so = one_grant lefts rights LIMIT c.open-bench.result _ c.args.left c.args.right c.advance.new.self
-    record { machines = c.open-bench.ensures.machines_taken_in; truth = c.open-bench.ensures.tells_the_truth; stays = c.open-bench.ensures.stays_unlike } c.advance.ensures in
+    record { machines = c.open-bench.ensures.machines_taken_in; truth = c.open-bench.ensures.tells_the_truth; stays = c.open-bench.ensures.stays_unlike } c.advance.ensures.answers_and_works in
     let done = concluded lefts rights c.args.left c.args.right LIMIT c.advance.new.self so (inl (le_refl LIMIT)) _ (asking lefts rights c.advance.new.self) _ _ _ c.show.ensures in
     let (long, front) = finds _ _ _ _ _ _ done refl (one lefts rights c.args.left c.args.right LIMIT c.advance.new.self so found.0) c.args.expected.now found in
     absurd (cc (long, c.in-Err.is))

@@ -14,9 +14,9 @@ loop-preserved g c = λ differ.
     let (most, so) = c.loop.invariant differ in
     let stays = c.open-bench.ensures.stays_unlike differ in
     let none = nothing g.L.Machine.meaning g.R.Machine.meaning c.open-bench.result c.args.grant c.args.buffer.now stays _ _ _ _ c.loop.buffer c.show.new.buffer c.loop.bench c.advance-worked.new.self so
-    c.advance-worked.ensures c.tally-counted.ensures.answers_and_stays c.show.ensures in
+    c.advance-worked.ensures.answers_and_works c.tally-counted.ensures.answers_and_stays c.show.ensures in
     let round = one_round g.L.Machine.meaning g.R.Machine.meaning c.open-bench.result c.args.grant c.args.buffer.now stays _ _ _ _ c.loop.buffer c.show.new.buffer c.loop.bench c.advance-worked.new.self so
-    c.advance-worked.ensures c.tally-counted.ensures.answers_and_stays c.show.ensures in
+    c.advance-worked.ensures.answers_and_works c.tally-counted.ensures.answers_and_stays c.show.ensures in
     (no_more _ _ _ _ _ _ _ most none.worked none.counted none.recorded c.max.ensures c.max-in-loop.ensures c.max-most.ensures, round)
 
 pub returns : goal.returns

@@ -10,7 +10,7 @@ pub loop-init : goal.loop-init
 loop-init g c = begins g.L.Machine.meaning g.R.Machine.meaning (Advance 64) by_turns c.open-bench.result
 
 pub loop-preserved : goal.loop-preserved
-loop-preserved g c = one_turn g.L.Machine.meaning g.R.Machine.meaning c.open-bench.result c.loop.counter _ _ c.loop.bench c.advance.new.self c.loop.invariant c.advance.ensures c.verdict.ensures
+loop-preserved g c = one_turn g.L.Machine.meaning g.R.Machine.meaning c.open-bench.result c.loop.counter _ _ c.loop.bench c.advance.new.self c.loop.invariant c.advance.ensures.answers_and_works c.verdict.ensures
 
 pub returns : goal.returns
 returns g c =
@@ -19,7 +19,7 @@ returns g c =
     let ended : Ended lefts rights c.open-bench.result c.loop-test.bench = elim c.loop-test.branch [
       | else-loop-test w ↦ ended_in_time lefts rights c.open-bench.result c.loop.counter c.loop.bench c.loop-test.bench (omega arith) w.bench-is c.loop.invariant
       | then-loop-test+then-not-is_open w ↦ ended_early lefts rights c.open-bench.result c.loop.counter _ _ c.loop.bench w.advance.new.self c.loop-test.bench w.bench-is
-          c.loop.invariant w.advance.ensures w.verdict.ensures (λ e. let shut = w.if-not-is_open.true in cc (shut, w.is_open.ensures.just_for_open.1 e))
+          c.loop.invariant w.advance.ensures.answers_and_works w.verdict.ensures (λ e. let shut = w.if-not-is_open.true in cc (shut, w.is_open.ensures.just_for_open.1 e))
     ] in
     let so : Reached lefts rights c.args.left c.args.right ended.grants c.loop-test.bench = record {
       bench = c.open-bench.result;

@@ -13,7 +13,7 @@ returns-in-Ok g c =
     let rights = g.R.Machine.meaning in
     let here = c.advance.new.self in
     let so = one_grant lefts rights LIMIT c.open-bench.result _ c.args.left c.args.right here
-    record { machines = c.open-bench.ensures.machines_taken_in; truth = c.open-bench.ensures.tells_the_truth; stays = c.open-bench.ensures.stays_unlike } c.advance.ensures in
+    record { machines = c.open-bench.ensures.machines_taken_in; truth = c.open-bench.ensures.tells_the_truth; stays = c.open-bench.ensures.stays_unlike } c.advance.ensures.answers_and_works in
     let done = concluded lefts rights c.args.left c.args.right LIMIT here so (inl (le_refl LIMIT)) _ (asking lefts rights here) _ _ _ c.show.ensures in
     let (same, first) = found_first _ _ _ _ _ _ done (Prim.search rules) c.in-Ok.length c.in-Ok.is in
     let (counts, rank) = truly lefts rights c.args.left c.args.right LIMIT here so same Tally (Tallied c.tally-recorded.result.0 c.tally-recorded.result.1) here c.tally-recorded.ensures.answers_and_stays in
@@ -31,6 +31,6 @@ returns-clause-none_just_where_none_is_to_find g c =
     let rights = g.R.Machine.meaning in
     let here = c.advance.new.self in
     let so = one_grant lefts rights LIMIT c.open-bench.result _ c.args.left c.args.right here
-    record { machines = c.open-bench.ensures.machines_taken_in; truth = c.open-bench.ensures.tells_the_truth; stays = c.open-bench.ensures.stays_unlike } c.advance.ensures in
+    record { machines = c.open-bench.ensures.machines_taken_in; truth = c.open-bench.ensures.tells_the_truth; stays = c.open-bench.ensures.stays_unlike } c.advance.ensures.answers_and_works in
     let done = concluded lefts rights c.args.left c.args.right LIMIT here so (inl (le_refl LIMIT)) _ (asking lefts rights here) _ _ _ c.show.ensures in
     (λ e. none_to_find _ _ _ _ _ _ done (Prim.search rules) _ c.in-Err.is, λ none. refl)
