@@ -221,7 +221,14 @@ fn granted<L: Machine, R: Machine>(bench: &mut Bench<L, R>, units: u32) -> u16
     bench.advance(units)
 }
 
-/// Whether a joint position waits to be worked on any bench. Nothing is counted for it.
+/// What is recorded on a bench has its place, whatever stands on it: the two need not even be machines.
+fn has_places<L, R>(any: &Bench<L, R>)
+    ensures recorded_have_places { recorded any.now.state ≤ 2048 }
+{
+    any.keeps_order();
+}
+
+/// Whether a joint position of a bench waits to be worked. It asks for the verdict alone, and not for the tally.
 fn waits<L: Machine, R: Machine>(bench: &Bench<L, R>) -> bool
     ensures one_is_left { IsTrue result → bench.now.state.worked < recorded bench.now.state }
 {
