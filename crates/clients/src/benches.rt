@@ -215,24 +215,24 @@ fn spare<L: Machine, R: Machine>(bench: &Bench<L, R>) -> (Verdict, u16, u16)
 }
 
 /// Grants so much to any bench, and answers how many joint positions that worked. No more are worked than have a place.
-fn granted<L: Machine, R: Machine>(bench: &mut Bench<L, R>, units: u32) -> u16
+fn worked_of_grant<L: Machine, R: Machine>(bench: &mut Bench<L, R>, units: u32) -> u16
     ensures worked_have_places { bench.new.state.worked ≤ 2048 }
 {
     bench.advance(units)
 }
 
 /// What is recorded on a bench has its place, whatever stands on it: the two need not even be machines.
-fn has_places<L, R>(any: &Bench<L, R>)
-    ensures recorded_have_places { recorded any.now.state ≤ 2048 }
+fn has_places<L, R>(any_bench: &Bench<L, R>)
+    ensures recorded_have_places { recorded any_bench.now.state ≤ 2048 }
 {
-    any.keeps_order();
+    any_bench.state_is_in_order();
 }
 
 /// Whether a joint position of a bench waits to be worked. It asks for the verdict alone, and not for the tally.
 fn waits<L: Machine, R: Machine>(bench: &Bench<L, R>) -> bool
     ensures one_is_left { IsTrue result → bench.now.state.worked < recorded bench.now.state }
 {
-    bench.keeps_order();
+    bench.state_is_in_order();
     bench.verdict().is_open()
 }
 
